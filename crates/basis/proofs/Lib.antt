@@ -1,0 +1,4 @@
+pub mod TestLaws
+pub mod SearchLaws
+pub mod CeilLaws
+pub mod ListLaws

@@ -1,0 +1,4 @@
+pub mod Tests
+pub mod Search
+pub mod Told
+pub mod Ceil

@@ -1,0 +1,75 @@
+-- When each refusal of the reader is given, in plain words: the numbers stand one after the other, each is judged by those
+-- before it, and the first that is objected to ends the reading, with its place.
+use Prim.Native.Nat.{ℕ, zero, suc, _+_, _*_, _/_, _%_, _≤_, _<_}
+use mathlib.Core.Path.{_≡_}
+use mathlib.Core.List.{List, [], _∷_, _++_}
+use mathlib.Core.Bool.{Bool, true, false}
+use lib.ListN.{length, getD, take, drop}
+use lib.Dec.{eqb, ltb}
+use Rattle.basis.specs.Tests.{pick, and, some}
+use Rattle.basis.specs.Told.{Told, given, refused}
+use Rattle.flow.specs.Flow.{row-ok}
+use Rattle.flow.specs.Gap.{first-gap, gap-told}
+use Rattle.table.specs.Ranges.{within, domain-counts, thread-counts, field-range}
+use Rattle.codec.specs.Number.{number-at, encode-all}
+use Rattle.codec.specs.declared.Number.the-variants.{Value, Refused}
+
+-- Why v is refused as the next field after the fields fs of the threads so far, in a table of d domains (0: it passes):
+-- thread i is being read, k is its next field, and field 1 is the priority.
+unfoldable pub field-fault : ℕ → List ℕ → ℕ → ℕ
+field-fault d fs v =
+    let i = length fs / 7 in
+    let k = length fs % 7 in
+    pick (within (field-range d (drop (7 * i) fs) k) v)
+    (pick (and (eqb k 1) (some i (λ j. eqb (getD fs (7 * j + 1) 0) v))) 9 0)
+    8
+
+-- Why v is refused as the next number after the numbers vs (0: it passes).
+unfoldable pub fault : List ℕ → ℕ → ℕ
+fault [] v = pick (eqb v 1) 0 4
+fault (version ∷ []) v = pick (within domain-counts v) 0 5
+fault (version ∷ d ∷ []) v = pick (within thread-counts v) 0 5
+fault (version ∷ d ∷ n ∷ vs) v = pick (ltb (length vs) d) (pick (row-ok d (length vs) v) 0 6) (field-fault d (drop d vs) v)
+
+-- The test that follows the last row: the first gap among the rows, where v is the last row after the numbers vs.
+unfoldable pub row-gap : List ℕ → ℕ → Told
+row-gap [] v = given []
+row-gap (version ∷ []) v = given []
+row-gap (version ∷ d ∷ []) v = given []
+row-gap (version ∷ d ∷ n ∷ vs) v = pick (eqb (length vs + 1) d) (gap-told (first-gap (vs ++ (v ∷ [])) d)) (given [])
+
+-- What is objected to v as the next number after vs: its own fault, or, of the last row, the first gap.
+unfoldable pub objection : List ℕ → ℕ → Told
+objection vs v = pick (eqb (fault vs v) 0) (row-gap vs v) (refused (fault vs v))
+
+-- Another number is wanted after vs: three, one for each domain, seven for each thread.
+unfoldable pub wanted : List ℕ → Bool
+wanted [] = true
+wanted (version ∷ []) = true
+wanted (version ∷ d ∷ []) = true
+wanted (version ∷ d ∷ n ∷ vs) = ltb (length vs) (d + 7 * n)
+
+-- The bytes s start with the numbers vs, each wanted where it stands and not objected to.
+pub record Before (s vs : List ℕ) : Type 0 where
+  pub stands : take (length (encode-all vs)) s ≡ encode-all vs
+  pub wants : (k : ℕ) → k < length vs → wanted (take k vs) ≡ true
+  pub passed : (k : ℕ) → k < length vs → objection (take k vs) (getD vs k 0) ≡ given []
+
+-- The place after the numbers vs.
+abbrev pub place : List ℕ → ℕ
+place vs = length (encode-all vs)
+
+-- What the rules say of the bytes s.
+pub data Judgment (s : List ℕ) : Told → Type 0 where
+  -- 1, 2, 3: a number is wanted, and what stands there is none
+  no-number : (vs : List ℕ) (why : ℕ) → Before s vs → wanted vs ≡ true → number-at s (place vs) ≡ Refused why
+      → Judgment s (record { number = why; values = place vs ∷ [] })
+  -- 4 to 9: a number is wanted and stands there, and is objected to
+  objected : (vs : List ℕ) (v next : ℕ) → Before s vs → wanted vs ≡ true → number-at s (place vs) ≡ Value v next
+      → 0 < objection vs v .number
+      → Judgment s (record { number = objection vs v .number; values = place vs ∷ objection vs v .values })
+  -- 10: no number is wanted, and bytes are left
+  extra : (vs : List ℕ) → Before s vs → wanted vs ≡ false → place vs < length s
+      → Judgment s (record { number = 10; values = place vs ∷ [] })
+  -- accepted: no number is wanted, and no byte is left
+  all-read : (vs : List ℕ) → Before s vs → wanted vs ≡ false → length s ≡ place vs → Judgment s (given [])

@@ -1,0 +1,82 @@
+// A flow relation over at most 16 domains: who may flow to whom, and the first missing pair.
+ghost use mathlib.Core.Path.{_≡_};
+ghost use Prim.Native.Nat.{_/_, _%_, _^_};
+ghost use lib.Dec.{eqb};
+ghost use Rattle.flow.specs.Flow.{flows, row-ok};
+ghost use Rattle.flow.specs.Gap.{broken, first-gap, gap-told, told};
+
+// Whether bit j of v is set.
+fn bit(v: u16, j: u8) -> bool
+    ensures { λ r. ⌜ r ≡ eqb (v / 2 ^ j % 2) 1 ⌝ }
+{
+    if 16 <= j {
+        return false;
+    }
+    (v >> j) % 2 == 1
+}
+
+// Whether v has no bit from d on.
+fn none_from(v: u16, d: u8) -> bool
+    ensures { λ r. ⌜ r ≡ eqb (v / 2 ^ d) 0 ⌝ }
+{
+    if 16 <= d {
+        return true;
+    }
+    v >> d == 0
+}
+
+// Whether domain i may flow to domain j; a domain past the rows flows nowhere.
+pub fn may_flow(rows: [u16; 16], i: u8, j: u8) -> bool
+    ensures { λ r. ⌜ r ≡ flows rows i j ⌝ }
+{
+    if 16 <= i {
+        return false;
+    }
+    bit(rows[i as usize], j)
+}
+
+// Whether row i, of value v, names only domains of the table, its own among them.
+pub fn row_passes(domains: u8, i: u8, v: u16) -> bool
+    ensures { λ r. ⌜ r ≡ row-ok domains i v ⌝ }
+{
+    if none_from(v, domains) {
+        return bit(v, i);
+    }
+    false
+}
+
+// The first domains that break transitivity: a flows to b, b to c, and a not to c.
+pub enum Gap {
+    At { a: u8, b: u8, c: u8 },
+    None,
+}
+
+// Whether a, b, c break transitivity.
+fn breaks(rows: [u16; 16], a: u8, b: u8, c: u8) -> bool
+    ensures { λ r. ⌜ r ≡ broken rows a b c ⌝ }
+{
+    if may_flow(rows, a, b) {
+        if may_flow(rows, b, c) {
+            return !may_flow(rows, a, c);
+        }
+    }
+    false
+}
+
+// The first missing pair ends the search: the smallest a, then b, then c.
+pub fn first_gap(rows: [u16; 16], domains: u8) -> Gap
+    ensures { λ r. ⌜ told r ≡ gap-told (first-gap rows domains) ⌝ }
+{
+    let mut found = Gap::None;
+    'search: for a in 0..domains {
+        for b in 0..domains {
+            for c in 0..domains {
+                if breaks(rows, a, b, c) {
+                    found = Gap::At { a, b, c };
+                    break 'search;
+                }
+            }
+        }
+    }
+    found
+}

@@ -1,0 +1,92 @@
+-- Laws of the ranges: what it is to be within one, and that a thread's fields are in theirs exactly where its plain ranges hold.
+use Prim.Native.Nat.{ℕ, zero, suc, _+_, _≤_, _<_}
+use mathlib.Core.Path.{_≡_, refl, sym, _∙_, ap}
+use mathlib.Core.Bool.{Bool, true, false}
+use mathlib.Core.List.{List}
+use native.Mathlib.Omega.{arith}
+use lib.ListN.{getD}
+use lib.Dec.{eqb, ltb, leb}
+use borrow.Author.Tests.{leb-true, ltb-true, le-leb, lt-ltb, eqb-true}
+use Rattle.basis.specs.Tests.{and, every}
+use Rattle.basis.proofs.TestLaws.{and-both, every-at}
+use Rattle.table.specs.Threads.{none, fields}
+use Rattle.table.specs.Ranges.{range, within, field-ranges, field-range}
+use Rattle.table.specs.Legal.{field-ok, thread-ok, field-zero, thread-zero, Legal-thread}
+use Rattle.table.specs.declared.Range.{Range}
+use Rattle.table.specs.declared.Thread.{Thread}
+
+pub within-low : (r : Range) (v : ℕ) → within r v ≡ true → r .low ≤ v
+unfolding within
+within-low r v e = leb-true (r .low) v (and-both (leb (r .low) v) (ltb v (r .below)) e .0)
+
+pub within-high : (r : Range) (v : ℕ) → within r v ≡ true → v < r .below
+unfolding within
+within-high r v e = ltb-true v (r .below) (and-both (leb (r .low) v) (ltb v (r .below)) e .1)
+
+pub within-is : (r : Range) (v : ℕ) → r .low ≤ v → v < r .below → within r v ≡ true
+unfolding within
+within-is r v h k = rw (le-leb (r .low) v h, lt-ltb v (r .below) k)
+
+-- The range of a field is decided by the fields before it.
+pub field-range-same : (d : ℕ) (vs ws : List ℕ) → getD vs 2 0 ≡ getD ws 2 0 → getD vs 4 0 ≡ getD ws 4 0
+    → (k : ℕ) → field-range d vs k ≡ field-range d ws k
+unfolding field-range
+field-range-same d vs ws p w k = rw (p, w)
+
+-- The tests of a thread's fields, by the plain ranges.
+pub thread-of-test : (d : ℕ) (th : Thread) → thread-ok d th ≡ true → Legal-thread d th
+unfolding thread-ok field-ok field-range field-ranges
+thread-of-test d th e =
+    let at : (k : ℕ) → k < 7 → field-ok d (fields th) k ≡ true = λ k h. every-at (field-ok d (fields th)) 7 k e h in
+    record {
+      domain-high = within-high (range 0 d) (th .domain) (at 0 (omega arith));
+      priority-high = omega (arith, within-high (range 0 256) (th .priority) (at 1 (omega arith)));
+      period-low = within-low (range 1 60001) (th .period) (at 2 (omega arith));
+      period-high = omega (arith, within-high (range 1 60001) (th .period) (at 2 (omega arith)));
+      offset-high = within-high (range 0 (th .period)) (th .offset) (at 3 (omega arith));
+      budget-low = within-low (range 1 (th .period + 1)) (th .budget) (at 4 (omega arith));
+      budget-high = omega (arith, within-high (range 1 (th .period + 1)) (th .budget) (at 4 (omega arith)));
+      deadline-low = within-low (range (th .budget) (th .period + 1)) (th .deadline) (at 5 (omega arith));
+      deadline-high = omega (arith, within-high (range (th .budget) (th .period + 1)) (th .deadline) (at 5 (omega arith)));
+      blocking-high = omega (arith, within-high (range 0 (th .budget + 1)) (th .blocking) (at 6 (omega arith)));
+    }
+
+pub test-of-thread : (d : ℕ) (th : Thread) → Legal-thread d th → thread-ok d th ≡ true
+unfolding thread-ok field-ok field-range field-ranges every
+test-of-thread d th g = rw (
+  within-is (range 0 d) (th .domain) (omega arith) (g .domain-high),
+  within-is (range 0 256) (th .priority) (omega arith) (omega (arith, g .priority-high)),
+  within-is (range 1 60001) (th .period) (g .period-low) (omega (arith, g .period-high)),
+  within-is (range 0 (th .period)) (th .offset) (omega arith) (g .offset-high),
+  within-is (range 1 (th .period + 1)) (th .budget) (g .budget-low) (omega (arith, g .budget-high)),
+  within-is (range (th .budget) (th .period + 1)) (th .deadline) (g .deadline-low) (omega (arith, g .deadline-high)),
+  within-is (range 0 (th .budget + 1)) (th .blocking) (omega arith) (omega (arith, g .blocking-high)),
+)
+
+pub none-of-test : (th : Thread) → thread-zero th ≡ true → th ≡ none
+unfolding thread-zero field-zero
+none-of-test th e =
+    let at : (k : ℕ) → k < 7 → getD (fields th) k 0 ≡ 0 = λ k h. eqb-true _ _ (every-at (field-zero (fields th)) 7 k e h) in
+    let r : _≡_ {A = Thread} (record {
+      domain = th .domain;
+      priority = th .priority;
+      period = th .period;
+      offset = th .offset;
+      budget = th .budget;
+      deadline = th .deadline;
+      blocking = th .blocking;
+    }) none
+    = rw (
+      at 0 (omega arith),
+      at 1 (omega arith),
+      at 2 (omega arith),
+      at 3 (omega arith),
+      at 4 (omega arith),
+      at 5 (omega arith),
+      at 6 (omega arith),
+    ) in
+    r
+
+pub none-passes : thread-zero none ≡ true
+unfolding thread-zero field-zero every
+none-passes = refl

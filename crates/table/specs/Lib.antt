@@ -1,0 +1,4 @@
+pub mod Threads
+pub mod Ranges
+pub mod Legal
+pub mod Mark

@@ -1,0 +1,122 @@
+// The test of a table that is handed in.
+ghost use mathlib.Core.Path.{_≡_};
+ghost use Prim.Native.Nat.{_≤_, _<_};
+ghost use Rattle.basis.specs.Tests.{every};
+ghost use Rattle.table.specs.Legal.{row-legal, thread-ok, thread-zero, taken, place-legal, legal};
+use super::Range;
+use super::Table;
+use super::Thread;
+use super::ranges::field_range;
+use super::ranges::fields;
+use super::ranges::in_range;
+use flow::Gap;
+use flow::first_gap;
+use flow::row_passes;
+
+// Whether one of the first n threads has the priority p.
+pub fn is_taken(threads: [Thread; 32], n: u8, p: u16) -> bool
+    requires { ⌜ n ≤ 32 ⌝ }
+    ensures { λ r. ⌜ r ≡ taken threads n p ⌝ }
+{
+    for j in 0..n {
+        let th = threads[j as usize];
+        if th.priority as u16 == p {
+            return true;
+        }
+    }
+    false
+}
+
+fn thread_passes(domains: u8, th: Thread) -> bool
+    ensures { λ r. ⌜ r ≡ thread-ok domains th ⌝ }
+{
+    let vs = fields(th);
+    for k in 0..7u8 {
+        let range = field_range(domains, vs, k);
+        if !in_range(range, vs[k as usize]) {
+            return false;
+        }
+    }
+    true
+}
+
+fn thread_is_zero(th: Thread) -> bool
+    ensures { λ r. ⌜ r ≡ thread-zero th ⌝ }
+{
+    let vs = fields(th);
+    for k in 0..7u8 {
+        if vs[k as usize] != 0 {
+            return false;
+        }
+    }
+    true
+}
+
+fn row_is_legal(rows: [u16; 16], domains: u8, i: u8) -> bool
+    requires { ⌜ i < 16 ⌝ }
+    ensures { λ r. ⌜ r ≡ row-legal rows domains i ⌝ }
+{
+    let v = rows[i as usize];
+    if i < domains {
+        return row_passes(domains, i, v);
+    }
+    v == 0
+}
+
+fn rows_are_legal(rows: [u16; 16], domains: u8) -> bool
+    ensures { λ r. ⌜ r ≡ every 16 (row-legal rows domains) ⌝ }
+{
+    for i in 0..16u8 {
+        if !row_is_legal(rows, domains, i) {
+            return false;
+        }
+    }
+    true
+}
+
+fn place_is_legal(t: Table, i: u8) -> bool
+    requires { ⌜ i < 32 ⌝ }
+    ensures { λ r. ⌜ r ≡ place-legal t i ⌝ }
+{
+    let threads = t.threads;
+    let th = threads[i as usize];
+    if i < t.count {
+        if thread_passes(t.domains, th) {
+            return !is_taken(threads, i, th.priority as u16);
+        }
+        return false;
+    }
+    thread_is_zero(th)
+}
+
+fn places_are_legal(t: Table) -> bool
+    ensures { λ r. ⌜ r ≡ every 32 (place-legal t) ⌝ }
+{
+    for i in 0..32u8 {
+        if !place_is_legal(t, i) {
+            return false;
+        }
+    }
+    true
+}
+
+pub fn table_passes(t: Table) -> bool
+    ensures { λ r. ⌜ r ≡ legal t ⌝ }
+{
+    let domains = t.domains;
+    if !in_range(Range { low: 1, below: 17 }, domains as u16) {
+        return false;
+    }
+    if !in_range(Range { low: 1, below: 33 }, t.count as u16) {
+        return false;
+    }
+    let rows = t.rows;
+    if !rows_are_legal(rows, domains) {
+        return false;
+    }
+    let gap = first_gap(rows, domains);
+    match gap {
+        Gap::At { a: _, b: _, c: _ } => false,
+        Gap::None => places_are_legal(t),
+    }
+}

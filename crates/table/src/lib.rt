@@ -1,0 +1,71 @@
+// The table of threads: up to 16 domains with a flow relation, up to 32 threads; which tables are legal, and the leak marks.
+ghost use mathlib.Core.Path.{_≡_};
+ghost use Rattle.table.specs.Legal.{legal as is-legal};
+ghost use Rattle.table.specs.Mark.{told, marking, marks-given};
+
+mod judge;
+mod mark;
+mod ranges;
+
+pub use judge::is_taken;
+pub use mark::mark_all;
+pub use ranges::field_range;
+pub use ranges::fields;
+pub use ranges::in_range;
+pub use ranges::no_thread;
+
+pub struct Thread {
+    pub domain: u8,
+    pub priority: u8,
+    pub period: u16,
+    pub offset: u16,
+    pub budget: u16,
+    pub deadline: u16,
+    pub blocking: u16,
+}
+
+pub struct Table {
+    pub domains: u8,
+    pub count: u8,
+    pub rows: [u16; 16],
+    pub threads: [Thread; 32],
+}
+
+// From low up to below a limit.
+pub struct Range {
+    pub low: u16,
+    pub below: u32,
+}
+
+pub enum Marking {
+    Given,
+    NotLegal,
+}
+
+pub struct Marked {
+    pub answer: Marking,
+    pub marks: [bool; 32],
+}
+
+// Whether a table is legal.
+pub fn legal(t: Table) -> bool
+    ensures { λ r. ⌜ r ≡ is-legal t ⌝ }
+{
+    judge::table_passes(t)
+}
+
+// The leak mark of each thread.
+pub fn marks(t: Table) -> Marked
+    ensures { λ r. ⌜ (told (r .answer) ≡ marking t) × (r .marks ≡ marks-given t) ⌝ }
+{
+    if !legal(t) {
+        return Marked {
+            answer: Marking::NotLegal,
+            marks: [false; 32],
+        };
+    }
+    Marked {
+        answer: Marking::Given,
+        marks: mark_all(t),
+    }
+}
