@@ -52,3 +52,7 @@ front-all l i n a e = rw (drop-replicate i n a, ← e) (take-append-drop i l)
 pub front-getD : {A : Type 0} (l z : List A) (i j : ℕ) (a : A) → j < i → i ≤ length l → getD (front l z i) j a ≡ getD l j a
 front-getD l z i j a h k =
     List·getD-append (take i l) (drop i z) a j (rw (length-take-le i l k) h) ∙ getD-take i l j a h
+
+-- What stands in a list from a place on, by the element there.
+pub drop-some : (s : List ℕ) (i b : ℕ) → b ≡ getD s i 0 → i < length s → drop i s ≡ b ∷ drop (i + 1) s
+drop-some s i b e h = rw (add-one, e, drop-cons s i 0)
