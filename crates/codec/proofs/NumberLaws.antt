@@ -5,7 +5,7 @@ use mathlib.Core.Bool.{Bool, true, false}
 use mathlib.Core.List.{List, [], _∷_, _++_, append-assoc, append-nil}
 use native.Mathlib.Omega.{arith}
 use lib.ListN.{length, getD, take, drop}
-use lib.Seq.{drop-append-seam, take-append-seam, getD-drop}
+use lib.Seq.{drop-append-seam, take-append-seam, getD-drop, take-suc}
 use lib.Dec.{eqb, ltb, leb}
 use borrow.Author.Tests.{le-leb, lt-leb, lt-ltb, le-ltb, eq-eqb, ne-eqb, ltb-true, ltb-false, leb-false, eqb-false}
 use Rattle.codec.specs.declared.Number.{Number}
@@ -151,3 +151,6 @@ encode-all-append (x ∷ xs) ys = rw (encode-all-append xs ys) (sym (append-asso
 pub encode-all-last : (xs : List ℕ) (v : ℕ) → encode-all (xs ++ (v ∷ [])) ≡ encode-all xs ++ encode v
 unfolding encode-all
 encode-all-last xs v = rw (encode-all-append xs (v ∷ []), append-nil)
+
+pub encode-all-take : (vs : List ℕ) (k : ℕ) → k < length vs → encode-all (take (suc k) vs) ≡ encode-all (take k vs) ++ encode (getD vs k 0)
+encode-all-take vs k h = rw (take-suc vs k 0 h) (encode-all-last (take k vs) (getD vs k 0))

@@ -11,6 +11,7 @@ use lib.ListN.{length, set, getD, replicate, length-set}
 use lib.Seq.{getD-set-same, getD-set-other}
 use lib.Dec.{eqb}
 use Rattle.basis.specs.Tests.{pick}
+use Rattle.basis.specs.Told.{Told}
 use Rattle.basis.proofs.TestLaws.{by-test}
 use Rattle.table.specs.Ranges.{range, within, domain-counts, thread-counts, field-range, field-ranges}
 use Rattle.table.specs.declared.Range.{Range}
@@ -19,7 +20,10 @@ use Rattle.table.proofs.RangeLaws.{within-high}
 use Rattle.codec.specs.declared.Cursor.{Cursor}
 use Rattle.codec.specs.declared.RowsRead.{RowsRead}
 use Rattle.codec.specs.declared.FieldsRead.{FieldsRead}
-use Rattle.codec.specs.Reader.{good, number-from, judged, ranged, row-from, put-row, rows-from, free, field-from, put-field, fields-from, put-thread, threads-from, after-rows, version-from, domains-from, count-from, reading}
+use Rattle.codec.specs.declared.Verdict.{Verdict}
+use Rattle.codec.specs.declared.Verdict.the-variants.{Accepted, Refused, Intransitive}
+use Rattle.codec.specs.declared.Reading.{Reading}
+use Rattle.codec.specs.Reader.{Read, told, read-of, good, number-from, judged, ranged, row-from, put-row, rows-from, free, field-from, put-field, fields-from, put-thread, threads-from, after-rows, version-from, domains-from, count-from, reading}
 
 -- One turn of each loop.
 pub rows-next : (s : List ℕ) (d : ℕ) (c : Cursor) (i : ℕ) (k k' : Cursor) (rows : List ℕ) →
@@ -103,3 +107,27 @@ fields-small s d ths i c h =
     let la = field-le s d ths i (at 0 .fields) 0 (at 0 .cursor) in
     let lb = field-le s d ths i (at 1 .fields) 1 (at 1 .cursor) in
     (rw (field-at s d ths i c 0 7 (omega arith) (omega arith)) (omega (arith, la)), rw (field-at s d ths i c 1 7 (omega arith) (omega arith)) (omega (arith, lb)))
+
+-- A verdict has one reading.
+pub told-injective : (v w : Verdict) → told v ≡ told w → v ≡ w
+told-injective Accepted Accepted e = refl
+told-injective Accepted (Refused y q) e = let v = ap (λ (t : Told). t .values) e in let z : _≡_ {A = ℕ} 0 1 = cc in absurd (omega arith)
+told-injective Accepted (Intransitive q x y z) e = let n = ap (λ (t : Told). t .number) e in absurd (omega arith)
+told-injective (Refused x p) Accepted e = let v = ap (λ (t : Told). t .values) e in let z : _≡_ {A = ℕ} 0 1 = cc in absurd (omega arith)
+told-injective (Refused x p) (Refused y q) e =
+    let v = ap (λ (t : Told). t .values) e in
+    let n : x ≡ y = ap (λ (t : Told). t .number) e in
+    cc
+told-injective (Refused x p) (Intransitive q a b c) e = let v = ap (λ (t : Told). t .values) e in let z : _≡_ {A = ℕ} 0 1 = cc in absurd (omega arith)
+told-injective (Intransitive p a b c) Accepted e = let n = ap (λ (t : Told). t .number) e in absurd (omega arith)
+told-injective (Intransitive p a b c) (Refused y q) e = let v = ap (λ (t : Told). t .values) e in let z : _≡_ {A = ℕ} 0 1 = cc in absurd (omega arith)
+told-injective (Intransitive p a b c) (Intransitive q x y z) e = let v = ap (λ (t : Told). t .values) e in cc
+
+-- No second answer fits `read`.
+pub read-unique : (s : List ℕ) (r q : Reading) → read-of r ≡ reading s → read-of q ≡ reading s → r ≡ q
+read-unique s r q e f =
+    let g : read-of r ≡ read-of q = e ∙ sym f in
+    let v : r .verdict ≡ q .verdict = told-injective _ _ (ap (λ (x : Read). x .told) g) in
+    let t : r .table ≡ q .table = ap (λ (x : Read). x .table) g in
+    let h : _≡_ {A = Reading} (record { verdict = r .verdict; table = r .table }) (record { verdict = q .verdict; table = q .table }) = rw (v, t) in
+    h

@@ -33,6 +33,18 @@ pub field-range-same : (d : ℕ) (vs ws : List ℕ) → getD vs 2 0 ≡ getD ws 
 unfolding field-range
 field-range-same d vs ws p w k = rw (p, w)
 
+pub field-range-by : (d : ℕ) (vs ws : List ℕ) (k : ℕ) → ((j : ℕ) → j < k → getD vs j 0 ≡ getD ws j 0) → field-range d vs k ≡ field-range d ws k
+unfolding field-range field-ranges
+field-range-by d vs ws zero h = refl
+field-range-by d vs ws (suc zero) h = refl
+field-range-by d vs ws (suc (suc zero)) h = refl
+field-range-by d vs ws (suc (suc (suc zero))) h = ap (range 0) (h 2 (omega arith))
+field-range-by d vs ws (suc (suc (suc (suc zero)))) h = ap (λ p. range 1 (p + 1)) (h 2 (omega arith))
+field-range-by d vs ws (suc (suc (suc (suc (suc zero))))) h =
+    ap (λ w. range w (getD vs 2 0 + 1)) (h 4 (omega arith)) ∙ ap (λ p. range (getD ws 4 0) (p + 1)) (h 2 (omega arith))
+field-range-by d vs ws (suc (suc (suc (suc (suc (suc zero)))))) h = ap (λ w. range 0 (w + 1)) (h 4 (omega arith))
+field-range-by d vs ws (suc (suc (suc (suc (suc (suc (suc k))))))) h = refl
+
 -- The tests of a thread's fields, by the plain ranges.
 pub thread-of-test : (d : ℕ) (th : Thread) → thread-ok d th ≡ true → Legal-thread d th
 unfolding thread-ok field-ok field-range field-ranges

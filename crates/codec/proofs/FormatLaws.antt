@@ -1,0 +1,55 @@
+-- Laws of a table's numbers: they grow by one row and by one thread, and do not change with a store behind them.
+use Prim.Native.Nat.{ℕ, zero, suc, _+_, _≤_, _<_}
+use mathlib.Core.Path.{_≡_, refl, sym, _∙_, ap}
+use mathlib.Core.List.{List, [], _∷_, _++_}
+use native.Mathlib.Omega.{arith}
+use lib.ListN.{length, getD, set}
+use lib.Seq.{getD-set-other, ext-getD}
+use lib.Dec.{eqb}
+use Rattle.basis.specs.Search.{listed}
+use Rattle.basis.proofs.TestLaws.{some-same}
+use Rattle.table.specs.Threads.{none, fields}
+use Rattle.table.specs.Legal.{taken}
+use Rattle.table.specs.declared.Thread.{Thread}
+use Rattle.codec.specs.Reader.{thread-of}
+use Rattle.codec.specs.Number.{encode, encode-all}
+use Rattle.codec.specs.Format.{row-numbers, thread-numbers}
+use Rattle.codec.proofs.NumberLaws.{encode-all-append, encode-all-last}
+
+pub rows-more : (rows : List ℕ) (i : ℕ) → encode-all (row-numbers rows (suc i)) ≡ encode-all (row-numbers rows i) ++ encode (getD rows i 0)
+unfolding row-numbers listed
+rows-more rows i = encode-all-last (listed i (λ i. getD rows i 0)) (getD rows i 0)
+
+pub threads-more : (ths : List Thread) (i : ℕ) →
+    encode-all (thread-numbers ths (suc i)) ≡ encode-all (thread-numbers ths i) ++ encode-all (fields (getD ths i none))
+unfolding thread-numbers
+threads-more ths i = encode-all-append (thread-numbers ths i) (fields (getD ths i none))
+
+pub rows-set : (rows : List ℕ) (i j v : ℕ) → i ≤ j → row-numbers (set rows j v) i ≡ row-numbers rows i
+unfolding row-numbers listed
+rows-set rows zero j v h = refl
+rows-set rows (suc i) j v h = rw (rows-set rows i j v (omega arith), getD-set-other rows j i v 0 (λ z. omega arith))
+
+pub threads-set : (ths : List Thread) (i j : ℕ) (v : Thread) → i ≤ j → thread-numbers (set ths j v) i ≡ thread-numbers ths i
+unfolding thread-numbers
+threads-set ths zero j v h = refl
+threads-set ths (suc i) j v h = rw (threads-set ths i j v (omega arith), getD-set-other ths j i v none (λ z. omega arith))
+
+-- Whether a priority is taken is decided by the threads before.
+pub taken-same : (a b : List Thread) (i p : ℕ) → ((j : ℕ) → j < i → getD a j none ≡ getD b j none) → taken a i p ≡ taken b i p
+unfolding taken
+taken-same a b i p h = some-same _ _ i (λ j l. ap (λ (th : Thread). eqb (th .priority) p) (h j l))
+
+-- Seven fields make a thread that has them.
+pub fields-back : (vs : List ℕ) → length vs ≡ 7 → fields (thread-of vs) ≡ vs
+fields-back vs e = ext-getD 0 (fields (thread-of vs)) vs (sym e) each
+  where
+    each : (i : ℕ) → i < 7 → getD (fields (thread-of vs)) i 0 ≡ getD vs i 0
+    each zero h = refl
+    each (suc zero) h = refl
+    each (suc (suc zero)) h = refl
+    each (suc (suc (suc zero))) h = refl
+    each (suc (suc (suc (suc zero)))) h = refl
+    each (suc (suc (suc (suc (suc zero))))) h = refl
+    each (suc (suc (suc (suc (suc (suc zero)))))) h = refl
+    each (suc (suc (suc (suc (suc (suc (suc i))))))) h = absurd (omega arith)
