@@ -1,7 +1,15 @@
 pub mod NumberLaws
 pub mod Runs
-pub mod ReaderLaws
 pub mod FormatLaws
+pub mod ReaderLaws
 pub mod Sound
 pub mod Complete
 pub mod RoundTrip
+pub mod BeforeLaws
+pub mod JudgedOnce
+pub mod JudgedSteps
+pub mod JudgedRules
+pub mod JudgedSound
+pub mod JudgingLaws
+pub mod WriterLaws
+pub mod LongestLaws

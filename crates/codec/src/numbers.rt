@@ -19,18 +19,18 @@ fn third_byte(s: &[u8], at: usize, v: u32) -> Number
     if s.len() <= at {
         return Number::Refused(1);
     }
-    let b = wide(s[at]);
-    if 128 <= b {
+    let last = wide(s[at]);
+    if 128 <= last {
         return Number::Refused(3);
     }
-    if b == 0 {
+    if last == 0 {
         return Number::Refused(2);
     }
-    let w = v + 16384 * b;
-    if 65535 < w {
-        return Number::Refused(3);
+    let w = v + 16384 * last;
+    if w <= 65535 {
+        return Number::Value(w as u16, at + 1);
     }
-    Number::Value(w as u16, at + 1)
+    Number::Refused(3)
 }
 
 // The second byte of a number, where the first gives v.

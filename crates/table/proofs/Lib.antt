@@ -1,2 +1,3 @@
 pub mod RangeLaws
 pub mod LegalLaws
+pub mod MarkLaws

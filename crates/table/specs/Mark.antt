@@ -1,5 +1,6 @@
 -- The leak mark: a thread is marked exactly when some thread of lower priority has a domain that its own may not flow to.
-use Prim.Native.Nat.{ℕ, _-_}
+use Prim.Native.Nat.{ℕ, _-_, _<_}
+use mathlib.Core.Path.{_≡_}
 use mathlib.Core.List.{List, [], _++_}
 use mathlib.Core.Bool.{Bool, false, not}
 use lib.ListN.{replicate}
@@ -41,3 +42,10 @@ marking t = pick (legal t) (given []) (refused 11)
 -- What `marks` gives beside its answer: all unmarked on a refusal.
 unfoldable pub marks-given : Table → List Bool
 marks-given t = pick (legal t) (marks-of t) (replicate 32 false)
+
+-- The plain reading of thread i's mark: a thread of the table, below it in priority, whose domain its own may not flow to.
+pub record Leaks (t : Table) (i : ℕ) : Type 0 where
+  pub thread-below : ℕ
+  pub in-table : thread-below < t .count
+  pub lower : thread t thread-below .priority < thread t i .priority
+  pub barred : flows (t .rows) (thread t i .domain) (thread t thread-below .domain) ≡ false

@@ -1,8 +1,8 @@
-use borrow.Author.Tests.{le-leb, lt-leb, lt-ltb, le-ltb, eq-eqb, ne-eqb}
-use lib.ListN.{drop-of-length-le}
-use Rattle.codec.specs.Number.{third}
-use Rattle.basis.specs.Tests.{pick}
 use Rattle.basis.proofs.ListLaws.{drop-some}
+use Rattle.basis.specs.Tests.{pick}
+use Rattle.codec.specs.Number.{third}
+use lib.ListN.{drop-of-length-le}
+use borrow.Author.Tests.{le-leb, lt-leb, lt-ltb, le-ltb, eq-eqb, ne-eqb}
 use borrow.Author.Needs.{needs}
 use Rattle.codec.proofs.numbers.third_byte.Statement.{statement}
 use Rattle.codec.proofs.numbers.third_byte.Tie as tie
@@ -34,19 +34,19 @@ mul-w c = search needs
 add-w : tie.Need-add-w
 add-w c = search needs
 
-returns-4 : tie.Need-returns-4
-unfolding third pick
-returns-4 c = rw (drop-some _ _ _ (c .before .before .before .wide .ensures .0) (c .before .before .before .before .before .if1 .left), lt-leb _ _ (c .before .before .if2 .left), ne-eqb _ _ (c .before .if3 .left), lt-ltb _ _ (c .if4 .taken))
-
 cast-t11 : tie.Need-cast-t11
 cast-t11 c = search needs
 
-add-t6 : tie.Need-add-t6
-add-t6 c = search needs
+add-t12 : tie.Need-add-t12
+add-t12 c = search needs
+
+returns-4 : tie.Need-returns-4
+unfolding third pick
+returns-4 c = rw (drop-some _ _ _ (c .before .before .before .wide .ensures .0) (c .before .before .before .before .before .if1 .left), lt-leb _ _ (c .before .before .if2 .left), ne-eqb _ _ (c .before .if3 .left), le-ltb _ _ (c .if4 .taken))
 
 returns-5 : tie.Need-returns-5
 unfolding third pick
-returns-5 c = rw (drop-some _ _ _ (c .before .before .before .wide .ensures .0) (c .before .before .before .before .before .if1 .left), lt-leb _ _ (c .before .before .if2 .left), ne-eqb _ _ (c .before .if3 .left), le-ltb _ _ (c .if4 .left))
+returns-5 c = rw (drop-some _ _ _ (c .before .before .before .wide .ensures .0) (c .before .before .before .before .before .if1 .left), lt-leb _ _ (c .before .before .if2 .left), ne-eqb _ _ (c .before .if3 .left), lt-ltb _ _ (c .if4 .left))
 
 pub third-byte-spec : {M : Type 1} → statement M
 third-byte-spec =
@@ -59,7 +59,7 @@ third-byte-spec =
     returns-3
     mul-w
     add-w
-    returns-4
     cast-t11
-    add-t6
+    add-t12
+    returns-4
     returns-5)

@@ -1,0 +1,106 @@
+-- The rules at each place of a table are what the reader tests there, over its arrays that are zero where nothing was read.
+use Prim.Native.Nat.{ℕ, zero, suc, _+_, _-_, _*_, _/_, _%_, _≤_, _<_}
+use mathlib.Core.Path.{_≡_, refl, sym, _∙_}
+use mathlib.Core.Bool.{Bool, true, false, not}
+use mathlib.Core.List.{List, [], _∷_, _++_}
+use native.Mathlib.Omega.{arith}
+use lib.ListN.{length, getD, set, replicate, length-append, List·getD-append}
+use lib.Seq.{set-at, append-snoc, drop-at}
+use lib.Dec.{eqb}
+use borrow.Author.Tests.{eq-eqb, ne-eqb, eqb-true, eqb-false, lt-ltb, le-ltb}
+use Rattle.basis.specs.Tests.{pick, and, or, some}
+use Rattle.basis.specs.Told.{given}
+use Rattle.basis.proofs.TestLaws.{by-test, fails, some-same}
+use Rattle.flow.specs.Flow.{flows, row-ok}
+use Rattle.flow.specs.Gap.{broken, gap-at, gap-by-c, gap-by-b, first-gap, gap-told}
+use Rattle.table.specs.Threads.{none}
+use Rattle.table.specs.Ranges.{range, within, field-range}
+use Rattle.table.specs.Legal.{taken}
+use Rattle.table.specs.declared.Thread.{Thread}
+use Rattle.table.proofs.RangeLaws.{within-low, within-high, within-is, field-range-same}
+use Rattle.codec.specs.Reader.{free}
+use Rattle.codec.specs.Judging.{field-fault, fault, row-gap, wanted}
+
+-- A list that a zeroed array is filled with from the front.
+zeros : (n j : ℕ) → _≡_ {A = ℕ} (getD (replicate n 0) j 0) 0
+zeros zero j = refl
+zeros (suc n) zero = refl
+zeros (suc n) (suc j) = zeros n j
+
+pub padded : (l : List ℕ) (n j : ℕ) → getD (l ++ replicate n 0) j 0 ≡ getD l j 0
+padded [] n j = zeros n j
+padded (x ∷ l) n zero = refl
+padded (x ∷ l) n (suc j) = padded l n j
+
+pub fill-next : (l : List ℕ) (i n v : ℕ) → length l ≡ i → i < n → set (l ++ replicate (n - i) 0) i v ≡ (l ++ (v ∷ [])) ++ replicate (n - suc i) 0
+fill-next l i n v e h =
+    let q : n - i ≡ suc (n - suc i) = omega arith in
+    rw (q, set-at l 0 (replicate (n - suc i) 0) v i e) (sym (append-snoc l v (replicate (n - suc i) 0)))
+
+-- The first gap is decided by what the rows hold.
+pub gap-same : (rows qs : List ℕ) (n : ℕ) → ((i : ℕ) → getD rows i 0 ≡ getD qs i 0) → first-gap rows n ≡ first-gap qs n
+unfolding first-gap gap-by-b gap-by-c gap-at broken flows
+gap-same rows qs n h = simp (gap-by-b, gap-by-c, gap-at, broken, flows, h)
+
+-- The rule of the version, as a range.
+pub version-fault : (v : ℕ) → fault [] v ≡ pick (within (range 1 2) v) 0 4
+unfolding fault pick
+version-fault v =
+    by-test (eqb v 1)
+    (λ t. let e : v ≡ 1 = eqb-true v 1 t in rw (t, within-is (range 1 2) v (omega arith) (omega arith)))
+    (λ t. rw (t, fails (within (range 1 2) v) (λ e. eqb-false v 1 t (omega (arith, within-low (range 1 2) v e, within-high (range 1 2) v e)))))
+
+-- The rules of the rows: the numbers x, d, n stand before them.
+pub row-fault : (x d n : ℕ) (rs : List ℕ) (v : ℕ) → length rs < d → fault (x ∷ d ∷ n ∷ rs) v ≡ pick (row-ok d (length rs) v) 0 6
+unfolding fault pick
+row-fault x d n rs v h = rw (lt-ltb (length rs) d h)
+
+pub no-row-gap : (x d n : ℕ) (rs : List ℕ) (v : ℕ) → (length rs + 1 ≡ d → ⊥) → row-gap (x ∷ d ∷ n ∷ rs) v ≡ given []
+unfolding row-gap pick
+no-row-gap x d n rs v h = rw (ne-eqb (length rs + 1) d h)
+
+pub last-row-gap : (x d n : ℕ) (rs : List ℕ) (v : ℕ) → length rs + 1 ≡ d → row-gap (x ∷ d ∷ n ∷ rs) v ≡ gap-told (first-gap (rs ++ (v ∷ [])) d)
+unfolding row-gap pick
+last-row-gap x d n rs v h = rw (eq-eqb (length rs + 1) d h)
+
+pub wanted-is : (x d n : ℕ) (vs : List ℕ) → length vs < d + 7 * n → wanted (x ∷ d ∷ n ∷ vs) ≡ true
+unfolding wanted
+wanted-is x d n vs h = lt-ltb (length vs) (d + 7 * n) h
+
+pub wanted-no : (x d n : ℕ) (vs : List ℕ) → d + 7 * n ≤ length vs → wanted (x ∷ d ∷ n ∷ vs) ≡ false
+unfolding wanted
+wanted-no x d n vs h = le-ltb (length vs) (d + 7 * n) h
+
+-- Refused with 9 where taken, or passed where free.
+swapped : (a t : Bool) → _≡_ {A = ℕ} (pick (and a t) 9 0) (pick (or (not a) (not t)) 0 9)
+unfolding pick
+swapped true true = refl
+swapped true false = refl
+swapped false t = refl
+
+-- The threads ths have the priorities that stand among the fields fs.
+pub record Agree (ths : List Thread) (i : ℕ) (fs : List ℕ) : Type 0 where
+  pub long : length fs ≡ 7 * i
+  pub priorities : (j : ℕ) → j < i → getD ths j none .priority ≡ getD fs (7 * j + 1) 0
+
+taken-same : (ths : List Thread) (i : ℕ) (fs gs : List ℕ) (v : ℕ) → Agree ths i fs
+    → some i (λ j. eqb (getD (fs ++ gs) (7 * j + 1) 0) v) ≡ taken ths i v
+unfolding taken
+taken-same ths i fs gs v a =
+    some-same _ _ i (λ j h. rw (List·getD-append fs gs 0 (7 * j + 1) (omega (arith, a .long)), a .priorities j h))
+
+-- The rules of a thread's fields: the fields fs of the threads before it and gs of its own so far stand before them.
+pub field-fault-is : (d : ℕ) (ths : List Thread) (i k : ℕ) (fs gs vs : List ℕ) (v : ℕ) → Agree ths i fs → length gs ≡ k → k < 7
+    → vs ≡ gs ++ replicate (7 - k) 0 → field-fault d (fs ++ gs) v ≡ pick (within (field-range d vs k) v) (pick (free ths i k v) 0 9) 8
+unfolding field-fault free
+field-fault-is d ths i k fs gs vs v a e h q =
+    let l : length (fs ++ gs) ≡ 7 * i + k = length-append fs gs ∙ rw (a .long, e) in
+    let li : length (fs ++ gs) / 7 ≡ i = omega arith in
+    let lk : length (fs ++ gs) % 7 ≡ k = omega arith in
+    let r : field-range d gs k ≡ field-range d vs k = field-range-same d gs vs (rw q (sym (padded gs (7 - k) 2))) (rw q (sym (padded gs (7 - k) 4))) k in
+    rw (li, lk, drop-at fs gs (7 * i) (a .long), r, taken-same ths i fs gs v a, swapped (eqb k 1) (taken ths i v))
+
+pub thread-fault : (x d n : ℕ) (rs fs : List ℕ) (v : ℕ) → length rs ≡ d → fault (x ∷ d ∷ n ∷ (rs ++ fs)) v ≡ field-fault d fs v
+unfolding fault pick
+thread-fault x d n rs fs v e =
+    rw (le-ltb (length (rs ++ fs)) d (omega (arith, length-append rs fs)), drop-at rs fs d e)
