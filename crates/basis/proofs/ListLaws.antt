@@ -56,3 +56,19 @@ front-getD l z i j a h k =
 -- What stands in a list from a place on, by the element there.
 pub drop-some : (s : List ℕ) (i b : ℕ) → b ≡ getD s i 0 → i < length s → drop i s ≡ b ∷ drop (i + 1) s
 drop-some s i b e h = rw (add-one, e, drop-cons s i 0)
+
+-- An array that is filled from the front with what is read, and holds the same value behind.
+pub all-alike : {A : Type 0} (n j : ℕ) (a : A) → getD (replicate n a) j a ≡ a
+all-alike zero j a = refl
+all-alike (suc n) zero a = refl
+all-alike (suc n) (suc j) a = all-alike n j a
+
+pub padded : {A : Type 0} (l : List A) (n j : ℕ) (a : A) → getD (l ++ replicate n a) j a ≡ getD l j a
+padded [] n j a = all-alike n j a
+padded (x ∷ l) n zero a = refl
+padded (x ∷ l) n (suc j) a = padded l n j a
+
+pub fill-next : {A : Type 0} (l : List A) (i n : ℕ) (v a : A) → length l ≡ i → i < n → set (l ++ replicate (n - i) a) i v ≡ (l ++ (v ∷ [])) ++ replicate (n - suc i) a
+fill-next l i n v a e h =
+    let q : n - i ≡ suc (n - suc i) = omega arith in
+    rw (q, set-at l a (replicate (n - suc i) a) v i e) (sym (append-snoc l v (replicate (n - suc i) a)))

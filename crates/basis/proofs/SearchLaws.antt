@@ -9,37 +9,37 @@ use native.Mathlib.Nat.{eq-or-lt-of-le, sub-zero}
 use native.Mathlib.Omega.{arith}
 use lib.ListN.{length, set, replicate, length-append}
 use lib.Seq.{set-at, append-snoc}
-use Rattle.basis.specs.Search.{Sought, missing, found, or-else, first, listed}
+use Rattle.basis.specs.Search.{Sought, nothing, found, or-else, first, listed}
 
 -- The steps of a loop over `first`: none yet, one more that finds nothing, the end, and the first that is found.
-pub first-none : {A : Type 0} (f : ℕ → Sought A) → first 0 f ≡ missing
+pub first-none : {A : Type 0} (f : ℕ → Sought A) → first 0 f ≡ nothing
 unfolding first
 first-none f = refl
 
-pub first-next : {A : Type 0} (f : ℕ → Sought A) (i : ℕ) → first i f ≡ missing → f i ≡ missing → first (i + 1) f ≡ missing
+pub first-next : {A : Type 0} (f : ℕ → Sought A) (i : ℕ) → first i f ≡ nothing → f i ≡ nothing → first (i + 1) f ≡ nothing
 unfolding first
 first-next f i e h = rw (add-one, e) h
 
-pub first-end : {A : Type 0} (f : ℕ → Sought A) (i n : ℕ) → first i f ≡ missing → i ≤ n → n ≤ i → first n f ≡ missing
+pub first-end : {A : Type 0} (f : ℕ → Sought A) (i n : ℕ) → first i f ≡ nothing → i ≤ n → n ≤ i → first n f ≡ nothing
 first-end f i n e h k = let q : n ≡ i = omega arith in rw q e
 
-pub first-hit : {A : Type 0} (f : ℕ → Sought A) (i n : ℕ) (a : A) → first i f ≡ missing → f i ≡ found a → i < n → first n f ≡ found a
+pub first-hit : {A : Type 0} (f : ℕ → Sought A) (i n : ℕ) (a : A) → first i f ≡ nothing → f i ≡ found a → i < n → first n f ≡ found a
 unfolding first
 first-hit f i n a e h l = le-ind (λ (m : ℕ). first m f ≡ found a) (rw e h) (λ m k r. rw r) n l
 
 -- Nothing was found exactly where each number answers nothing.
-or-else-missing : {A : Type 0} (s r : Sought A) → or-else s r ≡ missing → (s ≡ missing) × (r ≡ missing)
-or-else-missing missing r e = (refl, e)
-or-else-missing (found a) r e = let z : _≡_ {A = ℕ} 0 1 = cc in absurd (omega arith)
+or-else-nothing : {A : Type 0} (s r : Sought A) → or-else s r ≡ nothing → (s ≡ nothing) × (r ≡ nothing)
+or-else-nothing nothing r e = (refl, e)
+or-else-nothing (found a) r e = let z : _≡_ {A = ℕ} 0 1 = cc in absurd (omega arith)
 
-pub first-missing : {A : Type 0} (f : ℕ → Sought A) (n k : ℕ) → first n f ≡ missing → k < n → f k ≡ missing
+pub first-nothing : {A : Type 0} (f : ℕ → Sought A) (n k : ℕ) → first n f ≡ nothing → k < n → f k ≡ nothing
 unfolding first
-first-missing f zero k e h = absurd (omega arith)
-first-missing f (suc n) k e h =
-    let b = or-else-missing (first n f) (f n) e in
-    ⊎-elim (λ (q : k ≡ n). rw q (b .1)) (λ (l : k < n). first-missing f n k (b .0) l) (eq-or-lt-of-le (omega arith))
+first-nothing f zero k e h = absurd (omega arith)
+first-nothing f (suc n) k e h =
+    let b = or-else-nothing (first n f) (f n) e in
+    ⊎-elim (λ (q : k ≡ n). rw q (b .1)) (λ (l : k < n). first-nothing f n k (b .0) l) (eq-or-lt-of-le (omega arith))
 
-pub first-all : {A : Type 0} (f : ℕ → Sought A) (n : ℕ) → ((k : ℕ) → k < n → f k ≡ missing) → first n f ≡ missing
+pub first-all : {A : Type 0} (f : ℕ → Sought A) (n : ℕ) → ((k : ℕ) → k < n → f k ≡ nothing) → first n f ≡ nothing
 unfolding first
 first-all f zero h = refl
 first-all f (suc n) h = rw (first-all f n (λ k l. h k (omega arith))) (h n (omega arith))
@@ -49,7 +49,7 @@ pub record Found-at {A : Type 0} (f : ℕ → Sought A) (n : ℕ) (a : A) : Type
   pub number : ℕ
   pub below : number < n
   pub answers : f number ≡ found a
-  pub earlier : first number f ≡ missing
+  pub earlier : first number f ≡ nothing
 
 pub first-found : {A : Type 0} (f : ℕ → Sought A) (n : ℕ) (a : A) → first n f ≡ found a → Found-at f n a
 unfolding first
@@ -57,7 +57,7 @@ first-found f zero a e = let z : _≡_ {A = ℕ} 0 1 = cc in absurd (omega arith
 first-found {A} f (suc n) a e = go (first n f) refl (λ q. first-found f n a q)
   where
     go : (g : Sought A) → first n f ≡ g → (first n f ≡ found a → Found-at f n a) → Found-at f (suc n) a
-    go missing q before = record { number = n; below = omega arith; answers = rw q at e; earlier = q }
+    go nothing q before = record { number = n; below = omega arith; answers = rw q at e; earlier = q }
     go (found b) q before =
         let r : Found-at f n a = before (q ∙ (rw q at e)) in
         record { number = r .number; below = omega arith; answers = r .answers; earlier = r .earlier }

@@ -3,16 +3,16 @@ use Prim.Native.Nat.{ℕ, zero, suc}
 use mathlib.Core.List.{List, [], _∷_, _++_}
 
 pub data Sought (A : Type 0) : Type 0 where
-  missing : Sought A
+  nothing : Sought A
   found : A → Sought A
 
 abbrev pub or-else : {A : Type 0} → Sought A → Sought A → Sought A
-or-else missing s = s
+or-else nothing s = s
 or-else (found a) s = found a
 
 -- The first answer that was found among f 0 up to f (n - 1).
 unfoldable pub first : {A : Type 0} → ℕ → (ℕ → Sought A) → Sought A
-first zero f = missing
+first zero f = nothing
 first (suc n) f = or-else (first n f) (f n)
 
 -- The list of f 0 up to f (n - 1).

@@ -7,8 +7,8 @@ pub record Told : Type 0 where
   pub values : List ℕ
 
 -- Not refused, with these values.
-abbrev pub given : List ℕ → Told
-given vs = record { number = 0; values = vs }
+abbrev pub answered : List ℕ → Told
+answered vs = record { number = 0; values = vs }
 
 -- Refused with a number that has no values.
 abbrev pub refused : ℕ → Told

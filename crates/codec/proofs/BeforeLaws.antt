@@ -11,7 +11,7 @@ use lib.Seq.{take-append-seam, take-append-le, take-suc, take-all, take-length, 
 use lib.Dec.{eqb, ltb}
 use borrow.Author.Tests.{eqb-true, eqb-false, ltb-true, ltb-false}
 use Rattle.basis.specs.Tests.{pick}
-use Rattle.basis.specs.Told.{Told, given, refused}
+use Rattle.basis.specs.Told.{Told, answered, refused}
 use Rattle.basis.proofs.TestLaws.{by-test}
 use Rattle.flow.specs.Flow.{row-ok}
 use Rattle.flow.proofs.FlowLaws.{row-small}
@@ -44,7 +44,7 @@ before-reads {s} {vs} b = record {
 }
 
 -- One more number that is wanted, stands there and is not objected to.
-pub before-next : {s vs : List ℕ} {q : ℕ} (v : ℕ) → Before s vs → wanted vs ≡ true → Reads s (place vs) q (encode v) → objection vs v ≡ given []
+pub before-next : {s vs : List ℕ} {q : ℕ} (v : ℕ) → Before s vs → wanted vs ≡ true → Reads s (place vs) q (encode v) → objection vs v ≡ answered []
     → Before s (vs ++ (v ∷ []))
 before-next {s} {vs} {q} v b w r o =
     let j : Reads s 0 q (encode-all vs ++ encode v) = reads-join (before-reads b) r in
@@ -52,15 +52,15 @@ before-next {s} {vs} {q} v b w r o =
       stands = rw (encode-all-last vs v)
           (ap (take (length (encode-all vs ++ encode v))) (j .stands) ∙ take-append-seam (encode-all vs ++ encode v) (drop q s));
       wants = each-next (λ ws x. wanted ws ≡ true) vs v (b .wants) w;
-      passed = each-next (λ ws x. objection ws x ≡ given []) vs v (b .passed) o;
+      passed = each-next (λ ws x. objection ws x ≡ answered []) vs v (b .passed) o;
     }
 
 -- A number without an objection has no fault.
-pub unfaulted : (vs : List ℕ) (v : ℕ) → objection vs v ≡ given [] → fault vs v ≡ 0
+pub unfaulted : (vs : List ℕ) (v : ℕ) → objection vs v ≡ answered [] → fault vs v ≡ 0
 unfolding objection pick
 unfaulted vs v e =
     by-test (eqb (fault vs v) 0) (λ t. eqb-true _ _ t)
-    (λ t. let z : refused (fault vs v) ≡ given [] = rw t at e in ap (λ (o : Told). o .number) z)
+    (λ t. let z : refused (fault vs v) ≡ answered [] = rw t at e in ap (λ (o : Told). o .number) z)
 
 -- A test that gives no fault passes.
 pub passes : (b : Bool) (x w : ℕ) → 0 < w → pick b x w ≡ 0 → (b ≡ true) × (x ≡ 0)

@@ -10,7 +10,7 @@ use lib.Seq.{take-suc, take-all}
 use lib.Dec.{eqb, ltb}
 use borrow.Author.Tests.{le-ltb, eqb-true}
 use Rattle.basis.specs.Tests.{pick, or}
-use Rattle.basis.specs.Search.{missing, listed}
+use Rattle.basis.specs.Search.{nothing, listed}
 use Rattle.basis.proofs.TestLaws.{by-test, every-at}
 use Rattle.basis.proofs.ListLaws.{front, front-suc, front-all, front-getD, unused-by}
 use Rattle.flow.specs.Flow.{row-ok}
@@ -137,7 +137,7 @@ module _ (s : List ℕ) where
   unfolding ended pick
   ended-complete d n q rows r k l = rw (k .is, le-ltb q (length s) l)
 
-  after-rows-complete : (d n q : ℕ) (r : RowsRead) → Stood (r .cursor) q → first-gap (r .rows) d ≡ missing →
+  after-rows-complete : (d n q : ℕ) (r : RowsRead) → Stood (r .cursor) q → first-gap (r .rows) d ≡ nothing →
       after-rows s d n r ≡ ended s d n (r .rows) (threads-from s d (r .cursor) n)
   unfolding after-rows pick
   after-rows-complete d n q r k e = rw (e, ap (λ (x : Cursor). eqb (x .refusal) 0) (k .is))

@@ -9,7 +9,7 @@ use lib.Seq.{take-suc, take-length}
 use lib.Dec.{ltb}
 use borrow.Author.Tests.{ltb-true, ltb-false, lt-ltb, le-ltb}
 use Rattle.basis.specs.Tests.{pick}
-use Rattle.basis.specs.Told.{Told, given}
+use Rattle.basis.specs.Told.{Told, answered}
 use Rattle.basis.proofs.TestLaws.{by-test, refuted}
 use Rattle.codec.specs.declared.Number.{Number}
 use Rattle.codec.specs.declared.Number.the-variants.{Value, Refused}
@@ -23,7 +23,7 @@ record Goes-on (s vs : List ℕ) : Type 0 where
   value : ℕ
   next : ℕ
   reads : number-at s (place vs) ≡ Value value next
-  passed : objection vs value ≡ given []
+  passed : objection vs value ≡ answered []
 
 value-same : {n : Number} {v w p q : ℕ} → n ≡ Value v p → n ≡ Value w q → v ≡ w
 value-same e f = cc
@@ -39,7 +39,7 @@ number-told vs (Refused why) = record { number = why; values = place vs ∷ [] }
 end-told : List ℕ → List ℕ → Told
 end-told s vs =
     pick (wanted vs) (number-told vs (number-at s (place vs)))
-    (pick (ltb (place vs) (length s)) (record { number = 10; values = place vs ∷ [] }) (given []))
+    (pick (ltb (place vs) (length s)) (record { number = 10; values = place vs ∷ [] }) (answered []))
 
 -- A judgment tells this of an end where the numbers do not go on.
 record End (s : List ℕ) (o : Told) : Type 0 where
@@ -60,7 +60,7 @@ end-of s o (objected vs v next b w e h) = record {
   numbers = vs;
   before = b;
   ends = λ g.
-      let q : objection vs v ≡ given [] = rw (value-same e (g .reads)) (g .passed) in
+      let q : objection vs v ≡ answered [] = rw (value-same e (g .reads)) (g .passed) in
       omega (arith, ap (λ (t : Told). t .number) q);
   told = rw (w, e);
 }

@@ -4,43 +4,23 @@ use mathlib.Core.Path.{_≡_, refl, sym, _∙_}
 use mathlib.Core.Bool.{Bool, true, false, not}
 use mathlib.Core.List.{List, [], _∷_, _++_}
 use native.Mathlib.Omega.{arith}
-use lib.ListN.{length, getD, set, replicate, length-append, List·getD-append}
-use lib.Seq.{set-at, append-snoc, drop-at}
+use lib.ListN.{length, getD, replicate, length-append, List·getD-append}
+use lib.Seq.{drop-at}
 use lib.Dec.{eqb}
 use borrow.Author.Tests.{eq-eqb, ne-eqb, eqb-true, eqb-false, lt-ltb, le-ltb}
 use Rattle.basis.specs.Tests.{pick, and, or, some}
-use Rattle.basis.specs.Told.{given}
+use Rattle.basis.specs.Told.{answered}
 use Rattle.basis.proofs.TestLaws.{by-test, fails, some-same}
-use Rattle.flow.specs.Flow.{flows, row-ok}
-use Rattle.flow.specs.Gap.{broken, gap-at, gap-by-c, gap-by-b, first-gap, gap-told}
+use Rattle.basis.proofs.ListLaws.{padded}
+use Rattle.flow.specs.Flow.{row-ok}
+use Rattle.flow.specs.Gap.{first-gap, gap-told}
 use Rattle.table.specs.Threads.{none}
 use Rattle.table.specs.Ranges.{range, within, field-range}
 use Rattle.table.specs.Legal.{taken}
 use Rattle.table.specs.declared.Thread.{Thread}
-use Rattle.table.proofs.RangeLaws.{within-low, within-high, within-is, field-range-same}
+use Rattle.table.proofs.RangeLaws.{within-low, within-high, within-is, field-range-by}
 use Rattle.codec.specs.Reader.{free}
 use Rattle.codec.specs.Judging.{field-fault, fault, row-gap, wanted}
-
--- A list that a zeroed array is filled with from the front.
-zeros : (n j : ℕ) → _≡_ {A = ℕ} (getD (replicate n 0) j 0) 0
-zeros zero j = refl
-zeros (suc n) zero = refl
-zeros (suc n) (suc j) = zeros n j
-
-pub padded : (l : List ℕ) (n j : ℕ) → getD (l ++ replicate n 0) j 0 ≡ getD l j 0
-padded [] n j = zeros n j
-padded (x ∷ l) n zero = refl
-padded (x ∷ l) n (suc j) = padded l n j
-
-pub fill-next : (l : List ℕ) (i n v : ℕ) → length l ≡ i → i < n → set (l ++ replicate (n - i) 0) i v ≡ (l ++ (v ∷ [])) ++ replicate (n - suc i) 0
-fill-next l i n v e h =
-    let q : n - i ≡ suc (n - suc i) = omega arith in
-    rw (q, set-at l 0 (replicate (n - suc i) 0) v i e) (sym (append-snoc l v (replicate (n - suc i) 0)))
-
--- The first gap is decided by what the rows hold.
-pub gap-same : (rows qs : List ℕ) (n : ℕ) → ((i : ℕ) → getD rows i 0 ≡ getD qs i 0) → first-gap rows n ≡ first-gap qs n
-unfolding first-gap gap-by-b gap-by-c gap-at broken flows
-gap-same rows qs n h = simp (gap-by-b, gap-by-c, gap-at, broken, flows, h)
 
 -- The rule of the version, as a range.
 pub version-fault : (v : ℕ) → fault [] v ≡ pick (within (range 1 2) v) 0 4
@@ -55,7 +35,7 @@ pub row-fault : (x d n : ℕ) (rs : List ℕ) (v : ℕ) → length rs < d → fa
 unfolding fault pick
 row-fault x d n rs v h = rw (lt-ltb (length rs) d h)
 
-pub no-row-gap : (x d n : ℕ) (rs : List ℕ) (v : ℕ) → (length rs + 1 ≡ d → ⊥) → row-gap (x ∷ d ∷ n ∷ rs) v ≡ given []
+pub no-row-gap : (x d n : ℕ) (rs : List ℕ) (v : ℕ) → (length rs + 1 ≡ d → ⊥) → row-gap (x ∷ d ∷ n ∷ rs) v ≡ answered []
 unfolding row-gap pick
 no-row-gap x d n rs v h = rw (ne-eqb (length rs + 1) d h)
 
@@ -97,7 +77,7 @@ field-fault-is d ths i k fs gs vs v a e h q =
     let l : length (fs ++ gs) ≡ 7 * i + k = length-append fs gs ∙ rw (a .long, e) in
     let li : length (fs ++ gs) / 7 ≡ i = omega arith in
     let lk : length (fs ++ gs) % 7 ≡ k = omega arith in
-    let r : field-range d gs k ≡ field-range d vs k = field-range-same d gs vs (rw q (sym (padded gs (7 - k) 2))) (rw q (sym (padded gs (7 - k) 4))) k in
+    let r : field-range d gs k ≡ field-range d vs k = field-range-by d gs vs k (λ j m. rw q (sym (padded gs (7 - k) j 0))) in
     rw (li, lk, drop-at fs gs (7 * i) (a .long), r, taken-same ths i fs gs v a, swapped (eqb k 1) (taken ths i v))
 
 pub thread-fault : (x d n : ℕ) (rs fs : List ℕ) (v : ℕ) → length rs ≡ d → fault (x ∷ d ∷ n ∷ (rs ++ fs)) v ≡ field-fault d fs v

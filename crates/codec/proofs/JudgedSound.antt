@@ -10,10 +10,12 @@ use lib.ListN.{length, set, replicate, length-append, length-set, List·getD-app
 use lib.Seq.{getD-set-same, getD-set-other, getD-append-add}
 use borrow.Author.Tests.{eq-eqb}
 use Rattle.basis.specs.Tests.{pick}
-use Rattle.basis.specs.Search.{Sought, missing, found}
-use Rattle.basis.specs.Told.{given}
+use Rattle.basis.specs.Search.{Sought, nothing, found}
+use Rattle.basis.specs.Told.{answered}
+use Rattle.basis.proofs.ListLaws.{padded, fill-next}
 use Rattle.flow.specs.Flow.{row-ok}
 use Rattle.flow.specs.Gap.{Triple, first-gap, gap-told}
+use Rattle.flow.proofs.GapLaws.{gap-same}
 use Rattle.table.specs.Threads.{none}
 use Rattle.table.specs.Ranges.{range, within, domain-counts, thread-counts, field-range}
 use Rattle.table.specs.declared.Range.{Range}
@@ -29,7 +31,7 @@ use Rattle.codec.specs.Judging.{fault, row-gap, wanted, Judgment}
 use Rattle.codec.proofs.NumberLaws.{Bytes}
 use Rattle.codec.proofs.BeforeLaws.{before-nil, before-counts}
 use Rattle.codec.proofs.JudgedSteps.{Good, Stopped, Tested, gap-objection, stopped-judged, stopped-row, stopped-ranged, stopped-rows, stopped-field, stopped-fields, objected-by, test-step, one-step, ended-judged, stopped-ended, stopped-after, passed}
-use Rattle.codec.proofs.JudgedRules.{padded, fill-next, gap-same, version-fault, row-fault, no-row-gap, last-row-gap, wanted-is, wanted-no, Agree, field-fault-is, thread-fault}
+use Rattle.codec.proofs.JudgedRules.{version-fault, row-fault, no-row-gap, last-row-gap, wanted-is, wanted-no, Agree, field-fault-is, thread-fault}
 
 -- The rows so far: i were read, and stand in the array.
 record Rows-good (s : List ℕ) (x d n i : ℕ) (r : RowsRead) : Type 0 where
@@ -65,7 +67,7 @@ module _ (s : List ℕ) (hs : Bytes s) where
 
     row-filled : (i : ℕ) (r : RowsRead) (v : ℕ) → i < d → (b : Rows-good s x d n i r)
         → set (r .rows) i v ≡ (b .read ++ (v ∷ [])) ++ replicate (16 - suc i) 0
-    row-filled i r v h b = rw (b .filled) (fill-next (b .read) i 16 v (b .long) (omega arith))
+    row-filled i r v h b = rw (b .filled) (fill-next (b .read) i 16 v 0 (b .long) (omega arith))
 
     row-next : (i : ℕ) (r : RowsRead) (e : Cursor) → suc i < d → (b : Rows-good s x d n i r) → Tested s (x ∷ d ∷ n ∷ b .read) (λ v. 0) e
         → Rows-good s x d n (suc i) (put-row i (r .rows) e)
@@ -109,7 +111,7 @@ module _ (s : List ℕ) (hs : Bytes s) where
         good = rw (← append-assoc fs (b .read) (e .value ∷ []), ← append-assoc rs (fs ++ b .read) (e .value ∷ []))
             (passed s hs t (no-row-gap x d n (rs ++ (fs ++ b .read)) (e .value) (λ z. omega (arith, fields-length (b .read) k (b .long)))));
         long = rw (length-append (b .read) (e .value ∷ []), b .long) (omega arith);
-        filled = rw (b .filled) (fill-next (b .read) k 7 (e .value) (b .long) h);
+        filled = rw (b .filled) (fill-next (b .read) k 7 (e .value) 0 (b .long) h);
       }
 
       fields-good : (c : Cursor) → Good s (x ∷ d ∷ n ∷ (rs ++ fs)) c → (k : ℕ) → k ≤ 7
@@ -130,7 +132,7 @@ module _ (s : List ℕ) (hs : Bytes s) where
       agree = record {
         long = rw (length-append (b .read) (u .read), b .agree .long, u .long) (omega arith);
         priorities = λ j l. ⊎-elim
-            (λ (q : j ≡ i). rw (q, getD-set-same (t .threads) i (thread-of (f .fields)) none (rw (b .places) h), u .filled, padded (u .read) 0 1)
+            (λ (q : j ≡ i). rw (q, getD-set-same (t .threads) i (thread-of (f .fields)) none (rw (b .places) h), u .filled, padded (u .read) 0 1 0)
             (sym (rw (b .agree .long) at (getD-append-add (b .read) (u .read) 1 0))))
             (λ (q : j < i). rw (
               getD-set-other (t .threads) i j (thread-of (f .fields)) none (λ z. omega arith),
@@ -180,11 +182,11 @@ module _ (s : List ℕ) (hs : Bytes s) where
 
       gap : row-gap (x ∷ d ∷ n ∷ b .read) (e .value) ≡ gap-told (first-gap rows d)
       gap = last-row-gap x d n (b .read) (e .value) (omega (arith, b .long))
-          ∙ ap gap-told (gap-same read rows d (λ j. rw same (sym (padded read (16 - suc i) j))))
+          ∙ ap gap-told (gap-same read rows d (λ j. rw same (sym (padded read (16 - suc i) j 0))))
 
       go : (f : Sought Triple) → first-gap rows d ≡ f
           → Judgment s (whole-or-gap (e .start) f (ended s d n rows (threads-from s d e n)) .told)
-      go missing q =
+      go nothing q =
           threads-judged x d n read (rw (length-append (b .read) (e .value ∷ []), b .long) (omega arith)) e
           (passed s hs t (gap ∙ ap gap-told q)) hn rows
       go (found g) q = objected-by s (gap-told (found g)) t (gap-objection _ _ (t .left) ∙ gap ∙ ap gap-told q) (omega arith)
@@ -202,7 +204,7 @@ module _ (s : List ℕ) (hs : Bytes s) where
 
   -- The three numbers of the head: each is judged for its range alone.
   head-step : {vs : List ℕ} {c : Cursor} (r : Range) (why : ℕ) → 0 < why → ((v : ℕ) → fault vs v ≡ pick (within r v) 0 why)
-      → wanted vs ≡ true → ((v : ℕ) → row-gap vs v ≡ given []) → (Good s vs c) ⊎ (Stopped s c)
+      → wanted vs ≡ true → ((v : ℕ) → row-gap vs v ≡ answered []) → (Good s vs c) ⊎ (Stopped s c)
       → (Good s (vs ++ (ranged s c r why .value ∷ [])) (ranged s c r why)) ⊎ (Stopped s (ranged s c r why))
   unfolding ranged
   head-step {vs} {c} r why h f w e =

@@ -1,16 +1,16 @@
 -- One step of the reader against the rules: a number that passes its tests is one more, one that fails stops the reader with a judgment, and a stopped reader stays so.
-use Prim.Native.Nat.{ℕ, zero, suc, _+_, _*_, _<_}
+use Prim.Native.Nat.{ℕ, zero, suc, _<_}
 use mathlib.Core.Path.{_≡_, refl, ap, sym, _∙_}
 use mathlib.Core.Bool.{Bool, true, false}
 use mathlib.Core.List.{List, [], _∷_, _++_}
 use mathlib.Core.Logic.{_⊎_, inl, inr, ⊎-elim}
 use native.Mathlib.Omega.{arith}
 use lib.ListN.{length, drop, length-append, length-take}
-use lib.Dec.{eqb, ltb, leb}
+use lib.Dec.{eqb, ltb}
 use borrow.Author.Tests.{eq-eqb, ne-eqb, ltb-true, ltb-false}
 use Rattle.basis.specs.Tests.{pick}
-use Rattle.basis.specs.Told.{Told, given, refused}
-use Rattle.basis.proofs.TestLaws.{by-test, either}
+use Rattle.basis.specs.Told.{Told, answered, refused}
+use Rattle.basis.proofs.TestLaws.{by-test}
 use Rattle.table.specs.declared.Range.{Range}
 use Rattle.table.specs.declared.Thread.{Thread}
 use Rattle.codec.specs.declared.Number.{Number}
@@ -18,37 +18,12 @@ use Rattle.codec.specs.declared.Number.the-variants.{Value, Refused}
 use Rattle.codec.specs.declared.Cursor.{Cursor}
 use Rattle.codec.specs.declared.RowsRead.{RowsRead}
 use Rattle.codec.specs.declared.ThreadsRead.{ThreadsRead}
-use Rattle.codec.specs.Number.{third, second, number, number-at, encode, encode-all}
+use Rattle.codec.specs.Number.{number-at, encode, encode-all}
 use Rattle.codec.specs.Reader.{took, number-from, judged, ranged, row-from, rows-from, field-from, fields-from, ended, after-rows}
 use Rattle.codec.specs.Judging.{fault, row-gap, objection, wanted, Before, place, Judgment, no-number, objected, extra, all-read}
-use Rattle.codec.proofs.NumberLaws.{Bytes, encode-all-last}
+use Rattle.codec.proofs.NumberLaws.{Bytes, Told-why, number-why, encode-all-last}
 use Rattle.codec.proofs.Runs.{number-reads}
 use Rattle.codec.proofs.BeforeLaws.{before-next}
-
--- No number is refused with 0.
-abbrev Told-why : Number → Type 0
-Told-why (Value v next) = 0 < 1
-Told-why (Refused why) = 0 < why
-
-third-why : (at v : ℕ) (s : List ℕ) → Told-why (third at v s)
-unfolding third
-third-why at v [] = omega arith
-third-why at v (b ∷ s) =
-    either Told-why (leb 128 b) (λ t. omega arith)
-    (λ t. either Told-why (eqb b 0) (λ u. omega arith)
-    (λ u. either Told-why (ltb 65535 (v + 16384 * b)) (λ w. omega arith) (λ w. omega arith)))
-
-second-why : (at v : ℕ) (s : List ℕ) → Told-why (second at v s)
-unfolding second
-second-why at v [] = omega arith
-second-why at v (b ∷ s) =
-    either Told-why (eqb b 0) (λ t. omega arith)
-    (λ t. either Told-why (ltb b 128) (λ u. omega arith) (λ u. third-why (at + 1) _ s))
-
-number-why : (at : ℕ) (s : List ℕ) → Told-why (number at s)
-unfolding number
-number-why at [] = omega arith
-number-why at (b ∷ s) = either Told-why (ltb b 128) (λ t. omega arith) (λ t. second-why (at + 1) _ s)
 
 -- The reader has read vs, and stands after them.
 pub record Good (s vs : List ℕ) (c : Cursor) : Type 0 where
@@ -179,7 +154,7 @@ module _ (s : List ℕ) where
   stopped-after d n r h = rw (stopped-test h) (h .judgment)
 
   -- A number that passed all its tests is one more.
-  pub passed : Bytes s → {vs : List ℕ} {c : Cursor} → Tested s vs (λ v. 0) c → row-gap vs (c .value) ≡ given [] → Good s (vs ++ (c .value ∷ [])) c
+  pub passed : Bytes s → {vs : List ℕ} {c : Cursor} → Tested s vs (λ v. 0) c → row-gap vs (c .value) ≡ answered [] → Good s (vs ++ (c .value ∷ [])) c
   passed hs {vs} {c} t e =
       let r = number-reads s (place vs) (c .value) (c .next) hs (t .reads) in
       record {

@@ -13,7 +13,7 @@ use Rattle.codec.specs.declared.Number.the-variants.{Value, Refused}
 use Rattle.codec.specs.Number.{third, second, number, number-at, encode, encode-all}
 use mathlib.Core.Logic.{_≢_}
 use Rattle.basis.specs.Tests.{pick}
-use Rattle.basis.proofs.TestLaws.{by-test}
+use Rattle.basis.proofs.TestLaws.{by-test, either}
 
 -- the bytes of a number by its size
 pub encode-one : (v : ℕ) → v < 128 → encode v ≡ v ∷ []
@@ -60,6 +60,31 @@ number-encode v at post h =
       le-ltb 65535 v (omega arith),
       en,
     )))
+
+-- No number is refused with 0.
+abbrev pub Told-why : Number → Type 0
+Told-why (Value v next) = 0 < 1
+Told-why (Refused why) = 0 < why
+
+third-why : (at v : ℕ) (s : List ℕ) → Told-why (third at v s)
+unfolding third
+third-why at v [] = omega arith
+third-why at v (b ∷ s) =
+    either Told-why (leb 128 b) (λ t. omega arith)
+    (λ t. either Told-why (eqb b 0) (λ u. omega arith)
+    (λ u. either Told-why (ltb 65535 (v + 16384 * b)) (λ w. omega arith) (λ w. omega arith)))
+
+second-why : (at v : ℕ) (s : List ℕ) → Told-why (second at v s)
+unfolding second
+second-why at v [] = omega arith
+second-why at v (b ∷ s) =
+    either Told-why (eqb b 0) (λ t. omega arith)
+    (λ t. either Told-why (ltb b 128) (λ u. omega arith) (λ u. third-why (at + 1) _ s))
+
+pub number-why : (at : ℕ) (s : List ℕ) → Told-why (number at s)
+unfolding number
+number-why at [] = omega arith
+number-why at (b ∷ s) = either Told-why (ltb b 128) (λ t. omega arith) (λ t. second-why (at + 1) _ s)
 
 -- every element is a byte
 abbrev pub Bytes : List ℕ → Type 0

@@ -10,7 +10,7 @@ use lib.Seq.{length-take-le, take-at, drop-at}
 use lib.Dec.{leb}
 use borrow.Author.Tests.{leb-true, le-leb}
 use Rattle.basis.specs.Tests.{pick}
-use Rattle.basis.specs.Told.{Told, given, refused}
+use Rattle.basis.specs.Told.{Told, answered, refused}
 use Rattle.basis.proofs.TestLaws.{by-test}
 use Rattle.table.specs.Legal.{legal, Sized, Legal}
 use Rattle.table.specs.declared.Table.{Table}
@@ -28,7 +28,7 @@ accepted-exactly s hs t = (λ e. let r = sound s hs t e in (r .1, r .0), λ p. c
 
 -- Reading accepted bytes and writing the table gives the same bytes, wherever there is room for them.
 pub read-write : (s : List ℕ) → Bytes s → (t : Table) → reading s ≡ accepted t → (b : List ℕ) (at : ℕ) → at + length s ≤ length b →
-    (writing b at t ≡ given ((at + length s) ∷ [])) × (written b at t ≡ overlaid b at s)
+    (writing b at t ≡ answered ((at + length s) ∷ [])) × (written b at t ≡ overlaid b at s)
 unfolding writing written pick
 read-write s hs t e b at h =
     let r = sound s hs t e in
@@ -45,18 +45,18 @@ part-back b xs at h =
     rw e (drop-at (take at b) xs at l)
 
 -- Writing a legal table and reading what was written gives the same table.
-pub write-read : (t : Table) → Sized t → (b : List ℕ) (at next : ℕ) → writing b at t ≡ given (next ∷ []) →
+pub write-read : (t : Table) → Sized t → (b : List ℕ) (at next : ℕ) → writing b at t ≡ answered (next ∷ []) →
     reading (drop at (take next (written b at t))) ≡ accepted t
 unfolding writing written pick
 write-read t z b at next e =
     by-test (legal t)
     (λ l. by-test (leb (at + length (bytes t)) (length b))
-    (λ m. let f : given ((at + length (bytes t)) ∷ []) ≡ given (next ∷ []) = rw (l, m) at e in
+    (λ m. let f : answered ((at + length (bytes t)) ∷ []) ≡ answered (next ∷ []) = rw (l, m) at e in
     let v = ap (λ (w : Told). w .values) f in
     let q : at + length (bytes t) ≡ next = cc in
     rw (l, m, ← q, part-back b (bytes t) at (leb-true _ _ m)) (complete (bytes t) t (legal-sound t z l) refl))
     (λ m. wrong 16 next (omega arith) (rw (l, m) at e)))
     (λ l. wrong 11 next (omega arith) (rw l at e))
   where
-    wrong : {A : Type 0} (w next : ℕ) → 0 < w → refused w ≡ given (next ∷ []) → A
+    wrong : {A : Type 0} (w next : ℕ) → 0 < w → refused w ≡ answered (next ∷ []) → A
     wrong w next h f = let q : w ≡ 0 = ap (λ (x : Told). x .number) f in absurd (omega arith)

@@ -12,9 +12,10 @@ use lib.Seq.{getD-set-same, getD-set-other, take-suc-set, take-set-le, take-all}
 use lib.Dec.{eqb, ltb, leb}
 use borrow.Author.Tests.{eqb-true, eqb-false, ltb-false, not-true}
 use Rattle.basis.specs.Tests.{pick, and, or}
-use Rattle.basis.specs.Search.{Sought, missing, found, listed}
+use Rattle.basis.specs.Search.{Sought, nothing, found, listed}
 use Rattle.basis.specs.Told.{Told}
 use Rattle.basis.proofs.TestLaws.{by-test, every-all}
+use Rattle.basis.proofs.ListLaws.{all-alike}
 use Rattle.flow.specs.Flow.{row-ok}
 use Rattle.flow.specs.Gap.{Triple, first-gap}
 use Rattle.table.specs.Threads.{none, thread, fields}
@@ -31,40 +32,13 @@ use Rattle.codec.specs.declared.Cursor.{Cursor}
 use Rattle.codec.specs.declared.RowsRead.{RowsRead}
 use Rattle.codec.specs.declared.FieldsRead.{FieldsRead}
 use Rattle.codec.specs.declared.ThreadsRead.{ThreadsRead}
-use Rattle.codec.specs.Number.{third, second, number, number-at, encode, encode-all}
+use Rattle.codec.specs.Number.{number, number-at, encode, encode-all}
 use Rattle.codec.specs.Format.{row-numbers, thread-numbers, numbers, bytes}
 use Rattle.codec.specs.Reader.{good, took, number-from, judged, ranged, row-from, rows-from, free, field-from, fields-from, thread-of, threads-from, Read, accepted, refused-at, whole-or-gap, ended, after-rows, version-from, domains-from, count-from, reading}
-use Rattle.codec.proofs.NumberLaws.{Bytes, encode-all-append, encode-all-last}
+use Rattle.codec.proofs.NumberLaws.{Bytes, Told-why, number-why, encode-all-append, encode-all-last}
 use Rattle.codec.proofs.Runs.{Reads, number-reads, reads-nil, reads-join}
 use Rattle.codec.proofs.ReaderLaws.{ranged-le, length-fields}
 use Rattle.codec.proofs.FormatLaws.{rows-more, threads-more, rows-set, threads-set, taken-same, fields-back}
-
--- No number is refused with 0.
-not-zero : {A : Type 0} {x : ℕ} → 0 < x → Refused x ≡ Refused 0 → A
-not-zero {x = x} h e = let z : x ≡ 0 = cc in absurd (omega arith)
-
-not-value : {A : Type 0} {v n : ℕ} → Value v n ≡ Refused 0 → A
-not-value e = let z : _≡_ {A = ℕ} 0 1 = cc in absurd (omega arith)
-
-third-why : (at v : ℕ) (s : List ℕ) → third at v s ≡ Refused 0 → ⊥
-unfolding third pick
-third-why at v [] e = not-zero (omega arith) e
-third-why at v (b ∷ s) e =
-    by-test (leb 128 b) (λ t. not-zero (omega arith) (rw t at e))
-    (λ t. by-test (eqb b 0) (λ u. not-zero (omega arith) (rw (t, u) at e))
-    (λ u. by-test (ltb 65535 (v + 16384 * b)) (λ w. not-zero (omega arith) (rw (t, u, w) at e)) (λ w. not-value (rw (t, u, w) at e))))
-
-second-why : (at v : ℕ) (s : List ℕ) → second at v s ≡ Refused 0 → ⊥
-unfolding second pick
-second-why at v [] e = not-zero (omega arith) e
-second-why at v (b ∷ s) e =
-    by-test (eqb b 0) (λ t. not-zero (omega arith) (rw t at e))
-    (λ t. by-test (ltb b 128) (λ u. not-value (rw (t, u) at e)) (λ u. third-why (at + 1) _ s (rw (t, u) at e)))
-
-pub number-why : (at : ℕ) (s : List ℕ) → number at s ≡ Refused 0 → ⊥
-unfolding number pick
-number-why at [] e = not-zero (omega arith) e
-number-why at (b ∷ s) e = by-test (ltb b 128) (λ u. not-value (rw u at e)) (λ u. second-why (at + 1) _ s (rw u at e))
 
 -- What was read where a part of the reader did not refuse.
 pub record Number-read (s : List ℕ) (c r : Cursor) : Type 0 where
@@ -98,8 +72,8 @@ not-accepted {w = w} {p = p} e =
     let f : p ∷ [] ≡ [] = ap (λ (r : Read). r .told .values) e in
     let z : _≡_ {A = ℕ} 0 1 = cc in absurd (omega arith)
 
-whole-back : (p : ℕ) (g : Sought Triple) (r : Read) (t : Table) → whole-or-gap p g r ≡ accepted t → (g ≡ missing) × (r ≡ accepted t)
-whole-back p missing r t e = (refl, e)
+whole-back : (p : ℕ) (g : Sought Triple) (r : Read) (t : Table) → whole-or-gap p g r ≡ accepted t → (g ≡ nothing) × (r ≡ accepted t)
+whole-back p nothing r t e = (refl, e)
 whole-back p (found g) r t e =
     let f : _≡_ {A = ℕ} 7 0 = ap (λ (r : Read). r .told .number) e in absurd (omega arith)
 
@@ -115,16 +89,11 @@ stored l i n j v a e l' P before now h =
 behind : {A : Type 0} (l : List A) (i j : ℕ) (v a : A) → ((j : ℕ) → i ≤ j → getD l j a ≡ a) → suc i ≤ j → getD (set l i v) j a ≡ a
 behind l i j v a rest h = getD-set-other l i j v a (λ z. omega arith) ∙ rest j (omega arith)
 
-all-alike : {A : Type 0} (n j : ℕ) (a : A) → getD (replicate n a) j a ≡ a
-all-alike zero j a = refl
-all-alike (suc n) zero a = refl
-all-alike (suc n) (suc j) a = all-alike n j a
-
 module _ (s : List ℕ) (hs : Bytes s) where
   took-sound : (p : ℕ) (n : Number) → number-at s p ≡ n → took p n .refusal ≡ 0 → Reads s p (took p n .next) (encode (took p n .value))
   unfolding number-at
   took-sound p (Value v q) e h = number-reads s p v q hs e .1
-  took-sound p (Refused x) e h = absurd (number-why p (drop p s) (e ∙ ap Refused h))
+  took-sound p (Refused x) e h = let l : 0 < x = rw e at (number-why p (drop p s)) in absurd (omega arith)
 
   number-sound : (c : Cursor) → number-from s c .refusal ≡ 0 → Number-read s c (number-from s c)
   unfolding number-from pick
@@ -264,7 +233,7 @@ module _ (s : List ℕ) (hs : Bytes s) where
       (λ e. not-accepted (rw e at h))
 
   after-rows-back : (d n : ℕ) (r : RowsRead) (t : Table) → after-rows s d n r ≡ accepted t →
-      (r .cursor .refusal ≡ 0) × (first-gap (r .rows) d ≡ missing) × (ended s d n (r .rows) (threads-from s d (r .cursor) n) ≡ accepted t)
+      (r .cursor .refusal ≡ 0) × (first-gap (r .rows) d ≡ nothing) × (ended s d n (r .rows) (threads-from s d (r .cursor) n) ≡ accepted t)
   unfolding after-rows pick
   after-rows-back d n r t h =
       by-test (eqb (r .cursor .refusal) 0)

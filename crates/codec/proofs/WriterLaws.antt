@@ -12,7 +12,7 @@ use lib.Seq.{sets, sets-eq, length-sets, take-suc, take-all}
 use borrow.Author.Tests.{le-leb, lt-leb}
 use Rattle.basis.specs.Tests.{pick}
 use Rattle.basis.specs.Search.{listed}
-use Rattle.basis.specs.Told.{Told, given, refused}
+use Rattle.basis.specs.Told.{Told, answered, refused}
 use Rattle.table.specs.Threads.{none, fields}
 use Rattle.table.specs.Legal.{legal}
 use Rattle.table.specs.declared.Table.{Table}
@@ -147,7 +147,7 @@ module _ (b : List ℕ) (at : ℕ) (t : Table) where
   told-short e h = let l = lt-leb (at + length (bytes t)) (length b) h in (rw (e, l), rw (e, l))
 
   pub told-done : {b' : List ℕ} {k : ℕ} → legal t ≡ true → at + length (bytes t) ≤ length b → Put b at b' k (bytes t)
-      → (given (k ∷ []) ≡ writing b at t) × (b' ≡ written b at t)
+      → (answered (k ∷ []) ≡ writing b at t) × (b' ≡ written b at t)
   unfolding writing written pick
   told-done e h f =
       let l = le-leb (at + length (bytes t)) (length b) h in

@@ -7,7 +7,7 @@ use mathlib.Core.Bool.{Bool, true, false}
 use lib.ListN.{length, getD, take, drop}
 use lib.Dec.{eqb, ltb}
 use Rattle.basis.specs.Tests.{pick, and, some}
-use Rattle.basis.specs.Told.{Told, given, refused}
+use Rattle.basis.specs.Told.{Told, answered, refused}
 use Rattle.flow.specs.Flow.{row-ok}
 use Rattle.flow.specs.Gap.{first-gap, gap-told}
 use Rattle.table.specs.Ranges.{within, domain-counts, thread-counts, field-range}
@@ -33,10 +33,10 @@ fault (version ∷ d ∷ n ∷ vs) v = pick (ltb (length vs) d) (pick (row-ok d 
 
 -- The test that follows the last row: the first gap among the rows, where v is the last row after the numbers vs.
 unfoldable pub row-gap : List ℕ → ℕ → Told
-row-gap [] v = given []
-row-gap (version ∷ []) v = given []
-row-gap (version ∷ d ∷ []) v = given []
-row-gap (version ∷ d ∷ n ∷ vs) v = pick (eqb (length vs + 1) d) (gap-told (first-gap (vs ++ (v ∷ [])) d)) (given [])
+row-gap [] v = answered []
+row-gap (version ∷ []) v = answered []
+row-gap (version ∷ d ∷ []) v = answered []
+row-gap (version ∷ d ∷ n ∷ vs) v = pick (eqb (length vs + 1) d) (gap-told (first-gap (vs ++ (v ∷ [])) d)) (answered [])
 
 -- What is objected to v as the next number after vs: its own fault, or, of the last row, the first gap.
 unfoldable pub objection : List ℕ → ℕ → Told
@@ -53,7 +53,7 @@ wanted (version ∷ d ∷ n ∷ vs) = ltb (length vs) (d + 7 * n)
 pub record Before (s vs : List ℕ) : Type 0 where
   pub stands : take (length (encode-all vs)) s ≡ encode-all vs
   pub wants : (k : ℕ) → k < length vs → wanted (take k vs) ≡ true
-  pub passed : (k : ℕ) → k < length vs → objection (take k vs) (getD vs k 0) ≡ given []
+  pub passed : (k : ℕ) → k < length vs → objection (take k vs) (getD vs k 0) ≡ answered []
 
 -- The place after the numbers vs.
 abbrev pub place : List ℕ → ℕ
@@ -72,4 +72,4 @@ pub data Judgment (s : List ℕ) : Told → Type 0 where
   extra : (vs : List ℕ) → Before s vs → wanted vs ≡ false → place vs < length s
       → Judgment s (record { number = 10; values = place vs ∷ [] })
   -- accepted: no number is wanted, and no byte is left
-  all-read : (vs : List ℕ) → Before s vs → wanted vs ≡ false → length s ≡ place vs → Judgment s (given [])
+  all-read : (vs : List ℕ) → Before s vs → wanted vs ≡ false → length s ≡ place vs → Judgment s (answered [])

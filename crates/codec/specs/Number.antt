@@ -4,7 +4,7 @@ use mathlib.Core.List.{List, [], _∷_, _++_}
 use lib.ListN.{drop}
 use lib.Dec.{eqb, ltb, leb}
 use Rattle.basis.specs.Tests.{pick}
-use Rattle.basis.specs.Told.{Told, given, refused}
+use Rattle.basis.specs.Told.{Told, answered, refused}
 use Rattle.codec.specs.declared.Number.{Number}
 use Rattle.codec.specs.declared.Number.the-variants.{Value, Refused}
 
@@ -35,7 +35,7 @@ number-at s at = number at (drop at s)
 
 -- Document 01's number and values of an answer.
 abbrev pub told : Number → Told
-told (Value v next) = given (v ∷ next ∷ [])
+told (Value v next) = answered (v ∷ next ∷ [])
 told (Refused why) = refused why
 
 -- The bytes of a number, in its shortest form.

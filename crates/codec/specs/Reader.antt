@@ -5,8 +5,8 @@ use mathlib.Core.Bool.{Bool, true, false, not}
 use lib.ListN.{length, getD, set, replicate}
 use lib.Dec.{eqb, ltb}
 use Rattle.basis.specs.Tests.{pick, or}
-use Rattle.basis.specs.Search.{Sought, missing, found}
-use Rattle.basis.specs.Told.{Told, given}
+use Rattle.basis.specs.Search.{Sought, nothing, found}
+use Rattle.basis.specs.Told.{Told, answered}
 use Rattle.flow.specs.Flow.{row-ok}
 use Rattle.flow.specs.Gap.{Triple, first-gap}
 use Rattle.table.specs.Threads.{none}
@@ -112,7 +112,7 @@ abbrev pub no-table : Table
 no-table = record { domains = 0; count = 0; rows = replicate 16 0; threads = replicate 32 none }
 
 abbrev pub accepted : Table → Read
-accepted t = record { told = given []; table = t }
+accepted t = record { told = answered []; table = t }
 
 -- Refused with a number at a place.
 abbrev pub refused-at : ℕ → ℕ → Read
@@ -132,7 +132,7 @@ ended s d n rows t =
 
 -- After the last row: 7 with the start of the last row, or what follows.
 abbrev pub whole-or-gap : ℕ → Sought Triple → Read → Read
-whole-or-gap place missing r = r
+whole-or-gap place nothing r = r
 whole-or-gap place (found g) r = gapped-at place g
 
 unfoldable pub after-rows : List ℕ → ℕ → ℕ → RowsRead → Read
@@ -158,7 +158,7 @@ reading s =
 
 -- Document 01's number and values of a verdict.
 abbrev pub told : Verdict → Told
-told Accepted = given []
+told Accepted = answered []
 told (No why place) = record { number = why; values = place ∷ [] }
 told (Intransitive place a b c) = record { number = 7; values = place ∷ a ∷ b ∷ c ∷ [] }
 

@@ -5,7 +5,7 @@ use mathlib.Core.List.{List, [], _∷_, _++_}
 use lib.ListN.{length, take, drop}
 use lib.Dec.{leb}
 use Rattle.basis.specs.Tests.{pick, and}
-use Rattle.basis.specs.Told.{Told, given, refused}
+use Rattle.basis.specs.Told.{Told, answered, refused}
 use Rattle.table.specs.Legal.{legal}
 use Rattle.table.specs.declared.Table.{Table}
 use Rattle.codec.specs.declared.Writing.{Writing}
@@ -19,7 +19,7 @@ overlaid b at xs = take at b ++ xs ++ drop (at + length xs) b
 -- 11, then 16; else the place after the last byte written.
 unfoldable pub writing : List ℕ → ℕ → Table → Told
 writing b at t =
-    pick (legal t) (pick (leb (at + length (bytes t)) (length b)) (given ((at + length (bytes t)) ∷ [])) (refused 16)) (refused 11)
+    pick (legal t) (pick (leb (at + length (bytes t)) (length b)) (answered ((at + length (bytes t)) ∷ [])) (refused 16)) (refused 11)
 
 -- What the buffer then holds: on a refusal what it held.
 unfoldable pub written : List ℕ → ℕ → Table → List ℕ
@@ -27,6 +27,6 @@ written b at t = pick (legal t) (pick (leb (at + length (bytes t)) (length b)) (
 
 -- Document 01's number and values of an answer.
 abbrev pub told : Writing → Told
-told (Written next) = given (next ∷ [])
+told (Written next) = answered (next ∷ [])
 told NotLegal = refused 11
 told NoRoom = refused 16

@@ -5,11 +5,12 @@ use mathlib.Core.Bool.{Bool, true, false, true≢false}
 use mathlib.Core.List.{List, [], _∷_}
 use mathlib.Core.Logic.{_⊎_, inl, inr, ⊎-elim}
 use native.Mathlib.Omega.{arith}
+use lib.ListN.{getD}
 use native.Mathlib.Decide.{decLt}
 use Rattle.basis.specs.Tests.{pick}
-use Rattle.basis.specs.Search.{Sought, missing, found, first}
+use Rattle.basis.specs.Search.{Sought, nothing, found, first}
 use Rattle.basis.specs.Told.{Told}
-use Rattle.basis.proofs.SearchLaws.{first-missing, first-found, first-all, Found-at}
+use Rattle.basis.proofs.SearchLaws.{first-nothing, first-found, first-all, Found-at}
 use borrow.Author.Tests.{not-true, not-false}
 use Rattle.basis.specs.Tests.{and}
 use Rattle.basis.proofs.TestLaws.{refuted, fails, and-both}
@@ -18,7 +19,7 @@ use Rattle.flow.specs.declared.Gap.{Gap}
 use Rattle.flow.specs.declared.Gap.the-variants.{At, None}
 use Rattle.flow.specs.Gap.{broken, Triple, gap-at, gap-by-c, gap-by-b, first-gap, gap-told, told, Is-first-gap, Without-gap}
 
-pub gap-at-none : (rows : List ℕ) (a b c : ℕ) → broken rows a b c ≡ false → gap-at rows a b c ≡ missing
+pub gap-at-none : (rows : List ℕ) (a b c : ℕ) → broken rows a b c ≡ false → gap-at rows a b c ≡ nothing
 unfolding gap-at pick
 gap-at-none rows a b c e = rw e
 
@@ -26,24 +27,24 @@ pub gap-at-hit : (rows : List ℕ) (a b c : ℕ) → broken rows a b c ≡ true 
 unfolding gap-at pick
 gap-at-hit rows a b c e = rw e
 
-not-hit : (g : Triple) (t : Bool) → pick t (found g) missing ≡ missing → t ≡ false
+not-hit : (g : Triple) (t : Bool) → pick t (found g) nothing ≡ nothing → t ≡ false
 unfolding pick
 not-hit g true q = let z : _≡_ {A = ℕ} 0 1 = cc in absurd (omega arith)
 not-hit g false q = refl
 
-hit : (g h : Triple) (t : Bool) → pick t (found g) missing ≡ found h → (t ≡ true) × (g ≡ h)
+hit : (g h : Triple) (t : Bool) → pick t (found g) nothing ≡ found h → (t ≡ true) × (g ≡ h)
 unfolding pick
 hit g h true q = (refl, (cc))
 hit g h false q = let z : _≡_ {A = ℕ} 0 1 = cc in absurd (omega arith)
 
 -- No gap: no triple is broken, and the other way round.
-pub gap-missing : (rows : List ℕ) (n : ℕ) → first-gap rows n ≡ missing → Without-gap rows n
+pub gap-nothing : (rows : List ℕ) (n : ℕ) → first-gap rows n ≡ nothing → Without-gap rows n
 unfolding first-gap gap-by-b gap-by-c gap-at
-gap-missing rows n e = record {
-  whole = λ a b c ha hb hc. not-hit _ _ (first-missing _ n c (first-missing _ n b (first-missing _ n a e ha) hb) hc);
+gap-nothing rows n e = record {
+  whole = λ a b c ha hb hc. not-hit _ _ (first-nothing _ n c (first-nothing _ n b (first-nothing _ n a e ha) hb) hc);
 }
 
-pub no-gap : (rows : List ℕ) (n : ℕ) → Without-gap rows n → first-gap rows n ≡ missing
+pub no-gap : (rows : List ℕ) (n : ℕ) → Without-gap rows n → first-gap rows n ≡ nothing
 unfolding first-gap gap-by-b gap-by-c
 no-gap rows n w =
     first-all _ n (λ a ha. first-all _ n (λ b hb. first-all _ n (λ c hc. gap-at-none rows a b c (w .whole a b c ha hb hc))))
@@ -63,9 +64,9 @@ gap-found rows n g e =
       b-below = h .below;
       c-below = k .below;
       breaks = q .0;
-      smaller-a = λ x y z l m o. not-hit _ _ (first-missing _ n z (first-missing _ n y (first-missing _ _ x (f .earlier) l) m) o);
-      smaller-b = λ y z l m. not-hit _ _ (first-missing _ n z (first-missing _ _ y (h .earlier) l) m);
-      smaller-c = λ z l. not-hit _ _ (first-missing _ _ z (k .earlier) l);
+      smaller-a = λ x y z l m o. not-hit _ _ (first-nothing _ n z (first-nothing _ n y (first-nothing _ _ x (f .earlier) l) m) o);
+      smaller-b = λ y z l m. not-hit _ _ (first-nothing _ n z (first-nothing _ _ y (h .earlier) l) m);
+      smaller-c = λ z l. not-hit _ _ (first-nothing _ _ z (k .earlier) l);
     } in
     moved (q .1) r
 
@@ -97,7 +98,7 @@ pub gap-first : (rows : List ℕ) (n : ℕ) (g : Triple) → Is-first-gap rows n
 gap-first rows n g r = go (first-gap rows n) refl
   where
     go : (s : Sought Triple) → first-gap rows n ≡ s → first-gap rows n ≡ found g
-    go missing e = refuted (r .breaks) (gap-missing rows n e .whole _ _ _ (r .a-below) (r .b-below) (r .c-below))
+    go nothing e = refuted (r .breaks) (gap-nothing rows n e .whole _ _ _ (r .a-below) (r .b-below) (r .c-below))
     go (found h) e = e ∙ ap found (same-gap rows n h g (gap-found rows n h e) r)
 
 -- The answer of the code has one reading.
@@ -114,7 +115,7 @@ first-gap-unique rows n g h p q = told-injective g h (p ∙ sym q)
 -- What a caller learns from the answer of `first_gap`.
 abbrev pub sought : Gap → Sought Triple
 sought (At a b c) = found (record { a = a; b = b; c = c })
-sought None = missing
+sought None = nothing
 
 pub gap-sought : (r : Gap) (s : Sought Triple) → told r ≡ gap-told s → s ≡ sought r
 gap-sought (At a b c) (found g) e =
@@ -124,9 +125,9 @@ gap-sought (At a b c) (found g) e =
     let ec : c ≡ g .c = cc in
     let f : _≡_ {A = Triple} (record { a = g .a; b = g .b; c = g .c }) (record { a = a; b = b; c = c }) = rw (ea, eb, ec) in
     ap found f
-gap-sought (At a b c) missing e = let v = ap (λ (t : Told). t .number) e in absurd (omega arith)
+gap-sought (At a b c) nothing e = let v = ap (λ (t : Told). t .number) e in absurd (omega arith)
 gap-sought None (found g) e = let v = ap (λ (t : Told). t .number) e in absurd (omega arith)
-gap-sought None missing e = refl
+gap-sought None nothing e = refl
 
 -- Without a gap the relation is transitive, and the other way round.
 pub whole-flows : (rows : List ℕ) (n : ℕ) → Without-gap rows n → (a b c : ℕ) → a < n → b < n → c < n
@@ -143,3 +144,8 @@ flows-whole rows n h = record {
       let q = and-both (flows rows b c) _ (p .1) in
       true≢false (sym (h a b c ha hb hc (p .0) (q .0)) ∙ not-true _ (q .1)));
 }
+
+-- The first gap is decided by what the rows hold.
+pub gap-same : (rows qs : List ℕ) (n : ℕ) → ((i : ℕ) → getD rows i 0 ≡ getD qs i 0) → first-gap rows n ≡ first-gap qs n
+unfolding first-gap gap-by-b gap-by-c gap-at broken flows
+gap-same rows qs n h = simp (gap-by-b, gap-by-c, gap-at, broken, flows, h)

@@ -4,8 +4,8 @@ use mathlib.Core.Path.{_≡_}
 use mathlib.Core.List.{List, [], _∷_}
 use mathlib.Core.Bool.{Bool, true, false, not}
 use Rattle.basis.specs.Tests.{pick, and}
-use Rattle.basis.specs.Search.{Sought, missing, found, first}
-use Rattle.basis.specs.Told.{Told, given}
+use Rattle.basis.specs.Search.{Sought, nothing, found, first}
+use Rattle.basis.specs.Told.{Told, answered}
 use Rattle.flow.specs.Flow.{flows}
 use Rattle.flow.specs.declared.Gap.{Gap}
 use Rattle.flow.specs.declared.Gap.the-variants.{At, None}
@@ -20,7 +20,7 @@ pub record Triple : Type 0 where
   pub c : ℕ
 
 unfoldable pub gap-at : List ℕ → ℕ → ℕ → ℕ → Sought Triple
-gap-at rows a b c = pick (broken rows a b c) (found (record { a = a; b = b; c = c })) missing
+gap-at rows a b c = pick (broken rows a b c) (found (record { a = a; b = b; c = c })) nothing
 
 -- The smallest c below n, for a and b.
 unfoldable pub gap-by-c : List ℕ → ℕ → ℕ → ℕ → Sought Triple
@@ -36,13 +36,13 @@ first-gap rows n = first n (gap-by-b rows n)
 
 -- Document 01's number and values: 7 with the three domains, or no refusal.
 abbrev pub gap-told : Sought Triple → Told
-gap-told missing = given []
+gap-told nothing = answered []
 gap-told (found g) = record { number = 7; values = g .a ∷ g .b ∷ g .c ∷ [] }
 
 -- What an answer of the code tells.
 abbrev pub told : Gap → Told
 told (At a b c) = record { number = 7; values = a ∷ b ∷ c ∷ [] }
-told None = given []
+told None = answered []
 
 -- The plain reading: this triple is broken, and none before it is.
 pub record Is-first-gap (rows : List ℕ) (n : ℕ) (g : Triple) : Type 0 where

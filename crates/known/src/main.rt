@@ -13,7 +13,12 @@ fn no_bytes() -> bool {
             false
         }
         Verdict::Accepted => false,
-        Verdict::Intransitive { place: _, a: _, b: _, c: _ } => false,
+        Verdict::Intransitive {
+            place: _,
+            a: _,
+            b: _,
+            c: _,
+        } => false,
     }
 }
 

@@ -9,15 +9,15 @@ use lib.ListN.{length, getD, List·getD-eq-default}
 use lib.Dec.{eqb, ltb}
 use borrow.Author.Tests.{eqb-true, eqb-false, eq-eqb, ne-eqb, lt-ltb, le-ltb, not-true, ltb-true, ltb-false}
 use Rattle.basis.specs.Tests.{pick, and, every}
-use Rattle.basis.specs.Search.{Sought, missing, found}
+use Rattle.basis.specs.Search.{Sought, nothing, found}
 use Rattle.basis.proofs.TestLaws.{by-test, refuted, fails, and-both, every-at, every-all, some-false, some-found, Passing}
 use Rattle.flow.specs.Flow.{flows, row-ok}
 use Rattle.flow.specs.Gap.{Triple, broken, first-gap}
 use Rattle.flow.proofs.FlowLaws.{row-known, row-own, row-of}
-use Rattle.flow.proofs.GapLaws.{gap-missing, no-gap, whole-flows, flows-whole}
+use Rattle.flow.proofs.GapLaws.{gap-nothing, no-gap, whole-flows, flows-whole}
 use Rattle.table.specs.Threads.{none, thread}
 use Rattle.table.specs.Ranges.{within, domain-counts, thread-counts}
-use Rattle.table.specs.Legal.{row-legal, is-missing, thread-ok, taken, place-legal, legal, Sized, Legal, Legal-thread}
+use Rattle.table.specs.Legal.{row-legal, is-nothing, thread-ok, taken, place-legal, legal, Sized, Legal, Legal-thread}
 use Rattle.table.specs.declared.Table.{Table}
 use Rattle.table.specs.declared.Thread.{Thread}
 use Rattle.table.proofs.RangeLaws.{within-low, within-high, within-is, thread-of-test, test-of-thread, none-of-test, none-passes}
@@ -29,14 +29,14 @@ pub record Parts (t : Table) : Type 0 where
   pub count : within thread-counts (t .count) ≡ true
   pub row : (i : ℕ) → i < t .domains → row-ok (t .domains) i (getD (t .rows) i 0) ≡ true
   pub rows-unused : (i : ℕ) → t .domains ≤ i → getD (t .rows) i 0 ≡ 0
-  pub whole : first-gap (t .rows) (t .domains) ≡ missing
+  pub whole : first-gap (t .rows) (t .domains) ≡ nothing
   pub threads : (i : ℕ) → i < t .count → thread-ok (t .domains) (thread t i) ≡ true
   pub untaken : (i : ℕ) → i < t .count → taken (t .threads) i (thread t i .priority) ≡ false
   pub threads-unused : (i : ℕ) → t .count ≤ i → thread t i ≡ none
 
-missing-of : (s : Sought Triple) → is-missing s ≡ true → s ≡ missing
-missing-of missing e = refl
-missing-of (found g) e = absurd (false≢true e)
+nothing-of : (s : Sought Triple) → is-nothing s ≡ true → s ≡ nothing
+nothing-of nothing e = refl
+nothing-of (found g) e = absurd (false≢true e)
 
 pub legal-small : (t : Table) → legal t ≡ true → (t .domains ≤ 16) × (t .count ≤ 32)
 unfolding legal
@@ -53,7 +53,7 @@ module _ (t : Table) (z : Sized t) where
       let a = and-both (within domain-counts (t .domains)) _ e in
       let b = and-both (within thread-counts (t .count)) _ (a .1) in
       let c = and-both (every 16 (row-legal (t .rows) (t .domains))) _ (b .1) in
-      let g = and-both (is-missing (first-gap (t .rows) (t .domains))) (every 32 (place-legal t)) (c .1) in
+      let g = and-both (is-nothing (first-gap (t .rows) (t .domains))) (every 32 (place-legal t)) (c .1) in
       let dh : t .domains < 17 = within-high domain-counts (t .domains) (a .0) in
       let nh : t .count < 33 = within-high thread-counts (t .count) (b .0) in
       let row-at : (i : ℕ) → i < 16 → row-legal (t .rows) (t .domains) i ≡ true = λ i h. every-at _ 16 i (c .0) h in
@@ -68,7 +68,7 @@ module _ (t : Table) (z : Sized t) where
         rows-unused = λ i h. by-test (ltb i 16)
             (λ l. eqb-true _ _ (rw (le-ltb i (t .domains) h) at (row-at i (ltb-true i 16 l))))
             (λ l. List·getD-eq-default (t .rows) 0 (rw (z .rows) (ltb-false i 16 l)));
-        whole = missing-of _ (g .0);
+        whole = nothing-of _ (g .0);
         threads = λ i h. used i h .0;
         untaken = λ i h. not-true _ (used i h .1);
         threads-unused = λ i h. by-test (ltb i 32)
@@ -108,7 +108,7 @@ module _ (t : Table) (p : Parts t) where
     count-high = omega (arith, within-high thread-counts (t .count) (p .count));
     known = λ i j h e. row-known (t .rows) (t .domains) i j (p .row i h) e;
     reflexive = λ i h. row-own (t .rows) (t .domains) i (p .row i h);
-    transitive = whole-flows (t .rows) (t .domains) (gap-missing (t .rows) (t .domains) (p .whole));
+    transitive = whole-flows (t .rows) (t .domains) (gap-nothing (t .rows) (t .domains) (p .whole));
     rows-unused = p .rows-unused;
     threads = λ i h. thread-of-test (t .domains) (thread t i) (p .threads i h);
     distinct = λ i j h k e. same i j h k e (decLt i j) (decLt j i);

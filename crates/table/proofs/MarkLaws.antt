@@ -13,7 +13,7 @@ use Rattle.table.specs.Threads.{thread}
 use Rattle.table.specs.Mark.{seen-by, hidden-below, marked, told, marking, marks-given, Leaks}
 use Rattle.table.specs.declared.Table.{Table}
 use Rattle.table.specs.declared.Marking.{Marking}
-use Rattle.table.specs.declared.Marking.the-variants.{Given, NotLegal}
+use Rattle.table.specs.declared.Marking.the-variants.{Done, NotLegal}
 use Rattle.table.specs.declared.Marked.{Marked}
 
 pub mark-sound : (t : Table) (i : ℕ) → marked t i ≡ true → Leaks t i
@@ -28,9 +28,9 @@ unfolding marked hidden-below seen-by
 mark-complete t i l = some-hit (hidden-below t i) (l .thread-below) (t .count) (rw (lt-ltb _ _ (l .lower), l .barred)) (l .in-table)
 
 pub told-injective : (a b : Marking) → told a ≡ told b → a ≡ b
-told-injective Given Given e = refl
-told-injective Given NotLegal e = let n = ap (λ (t : Told). t .number) e in absurd (omega arith)
-told-injective NotLegal Given e = let n = ap (λ (t : Told). t .number) e in absurd (omega arith)
+told-injective Done Done e = refl
+told-injective Done NotLegal e = let n = ap (λ (t : Told). t .number) e in absurd (omega arith)
+told-injective NotLegal Done e = let n = ap (λ (t : Told). t .number) e in absurd (omega arith)
 told-injective NotLegal NotLegal e = refl
 
 -- No second answer fits `marks`.

@@ -28,11 +28,6 @@ unfolding within
 within-is r v h k = rw (le-leb (r .low) v h, lt-ltb v (r .below) k)
 
 -- The range of a field is decided by the fields before it.
-pub field-range-same : (d : ℕ) (vs ws : List ℕ) → getD vs 2 0 ≡ getD ws 2 0 → getD vs 4 0 ≡ getD ws 4 0
-    → (k : ℕ) → field-range d vs k ≡ field-range d ws k
-unfolding field-range
-field-range-same d vs ws p w k = rw (p, w)
-
 pub field-range-by : (d : ℕ) (vs ws : List ℕ) (k : ℕ) → ((j : ℕ) → j < k → getD vs j 0 ≡ getD ws j 0) → field-range d vs k ≡ field-range d ws k
 unfolding field-range field-ranges
 field-range-by d vs ws zero h = refl

@@ -6,7 +6,7 @@ use mathlib.Core.Bool.{Bool, true, false, not}
 use lib.ListN.{length, getD}
 use lib.Dec.{eqb, ltb}
 use Rattle.basis.specs.Tests.{pick, and, every, some}
-use Rattle.basis.specs.Search.{Sought, missing, found}
+use Rattle.basis.specs.Search.{Sought, nothing, found}
 use Rattle.flow.specs.Flow.{flows, row-ok}
 use Rattle.flow.specs.Gap.{Triple, first-gap}
 use Rattle.table.specs.Threads.{none, thread, fields}
@@ -18,9 +18,9 @@ use Rattle.table.specs.declared.Thread.{Thread}
 unfoldable pub row-legal : List ℕ → ℕ → ℕ → Bool
 row-legal rows d i = pick (ltb i d) (row-ok d i (getD rows i 0)) (eqb (getD rows i 0) 0)
 
-abbrev pub is-missing : Sought Triple → Bool
-is-missing missing = true
-is-missing (found g) = false
+abbrev pub is-nothing : Sought Triple → Bool
+is-nothing nothing = true
+is-nothing (found g) = false
 
 -- Field k of the fields vs is in its range.
 unfoldable pub field-ok : ℕ → List ℕ → ℕ → Bool
@@ -50,7 +50,7 @@ place-legal t i =
 unfoldable pub legal : Table → Bool
 legal t =
     and (within domain-counts (t .domains)) (and (within thread-counts (t .count)) (and (every 16 (row-legal (t .rows) (t .domains)))
-    (and (is-missing (first-gap (t .rows) (t .domains))) (every 32 (place-legal t)))))
+    (and (is-nothing (first-gap (t .rows) (t .domains))) (every 32 (place-legal t)))))
 
 -- What a Table's type says of it: 16 rows and 32 thread places.
 pub record Sized (t : Table) : Type 0 where

@@ -7,13 +7,13 @@ use lib.ListN.{replicate}
 use lib.Dec.{ltb}
 use Rattle.basis.specs.Tests.{pick, and, some}
 use Rattle.basis.specs.Search.{listed}
-use Rattle.basis.specs.Told.{Told, given, refused}
+use Rattle.basis.specs.Told.{Told, answered, refused}
 use Rattle.flow.specs.Flow.{flows}
 use Rattle.table.specs.Threads.{thread}
 use Rattle.table.specs.Legal.{legal}
 use Rattle.table.specs.declared.Table.{Table}
 use Rattle.table.specs.declared.Marking.{Marking}
-use Rattle.table.specs.declared.Marking.the-variants.{Given, NotLegal}
+use Rattle.table.specs.declared.Marking.the-variants.{Done, NotLegal}
 
 -- Thread i's domain may flow to domain d.
 unfoldable pub seen-by : Table → ℕ → ℕ → Bool
@@ -33,11 +33,11 @@ marks-of t = listed (t .count) (marked t) ++ replicate (32 - t .count) false
 
 -- Document 01's number: 11 where the table is not legal.
 abbrev pub told : Marking → Told
-told Given = given []
+told Done = answered []
 told NotLegal = refused 11
 
 unfoldable pub marking : Table → Told
-marking t = pick (legal t) (given []) (refused 11)
+marking t = pick (legal t) (answered []) (refused 11)
 
 -- What `marks` gives beside its answer: all unmarked on a refusal.
 unfoldable pub marks-given : Table → List Bool

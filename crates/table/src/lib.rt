@@ -38,7 +38,7 @@ pub struct Range {
 }
 
 pub enum Marking {
-    Given,
+    Done,
     NotLegal,
 }
 
@@ -65,7 +65,7 @@ pub fn marks(t: Table) -> Marked
         };
     }
     Marked {
-        answer: Marking::Given,
+        answer: Marking::Done,
         marks: mark_all(t),
     }
 }

@@ -2,7 +2,7 @@
 ghost use mathlib.Core.Path.{_≡_};
 ghost use Prim.Native.Nat.{_+_};
 ghost use Rattle.table.specs.Threads.{none, fields as the-fields};
-ghost use Rattle.table.specs.Ranges.{within, field-range};
+ghost use Rattle.table.specs.Ranges.{range, within, field-range};
 use super::Range;
 use super::Thread;
 
@@ -45,6 +45,12 @@ pub fn fields(th: Thread) -> [u16; 7]
     ]
 }
 
+fn make_range(low: u16, below: u32) -> Range
+    ensures { λ r. ⌜ r ≡ range low below ⌝ }
+{
+    Range { low, below }
+}
+
 // The limit below which a number is at most v.
 fn up_to(v: u16) -> u32
     ensures { λ r. ⌜ r ≡ v + 1 ⌝ }
@@ -59,31 +65,13 @@ pub fn field_range(domains: u8, fields: [u16; 7], k: u8) -> Range
     let period = fields[2];
     let budget = fields[4];
     match k {
-        0 => Range {
-            low: 0,
-            below: domains as u32,
-        },
-        1 => Range { low: 0, below: 256 },
-        2 => Range {
-            low: 1,
-            below: 60001,
-        },
-        3 => Range {
-            low: 0,
-            below: period as u32,
-        },
-        4 => Range {
-            low: 1,
-            below: up_to(period),
-        },
-        5 => Range {
-            low: budget,
-            below: up_to(period),
-        },
-        6 => Range {
-            low: 0,
-            below: up_to(budget),
-        },
-        _ => Range { low: 0, below: 0 },
+        0 => make_range(0, domains as u32),
+        1 => make_range(0, 256),
+        2 => make_range(1, 60001),
+        3 => make_range(0, period as u32),
+        4 => make_range(1, up_to(period)),
+        5 => make_range(budget, up_to(period)),
+        6 => make_range(0, up_to(budget)),
+        _ => make_range(0, 0),
     }
 }

@@ -1,5 +1,5 @@
 -- `flow::first_gap` meets its contract: each of the three loops has found nothing so far in its own search, `gap-by-c`, `gap-by-b` and `first-gap`.
-use Rattle.basis.specs.Search.{missing, first}
+use Rattle.basis.specs.Search.{nothing, first}
 use Rattle.basis.proofs.SearchLaws.{first-none, first-next, first-hit, first-end}
 use Rattle.flow.proofs.GapLaws.{gap-at-none, gap-at-hit}
 use Rattle.flow.specs.Gap.{gap-at, gap-by-c, gap-by-b, first-gap, gap-told, told}
@@ -11,19 +11,19 @@ use Rattle.flow.proofs.first_gap.Statement.{statement}
 use Rattle.flow.proofs.first_gap.Tie as tie
 
 abbrev Inv-loop2 : tie.InvT-loop2
-Inv-loop2 rows domains found₀ a b c₀ found c = (c ≤ domains) × (found ≡ None) × (first c (gap-at rows a b) ≡ missing)
+Inv-loop2 rows domains found₀ a b c₀ found c = (c ≤ domains) × (found ≡ None) × (first c (gap-at rows a b) ≡ nothing)
 
 abbrev μ-loop2 : tie.MeasureT-loop2
 μ-loop2 rows domains found₀ a b c₀ found c = domains - c
 
 abbrev Inv-loop : tie.InvT-loop
-Inv-loop rows domains found₀ a b₀ found b = (b ≤ domains) × (found ≡ None) × (first b (gap-by-c rows domains a) ≡ missing)
+Inv-loop rows domains found₀ a b₀ found b = (b ≤ domains) × (found ≡ None) × (first b (gap-by-c rows domains a) ≡ nothing)
 
 abbrev μ-loop : tie.MeasureT-loop
 μ-loop rows domains found₀ a b₀ found b = domains - b
 
 abbrev Inv-search : tie.InvT-search
-Inv-search rows domains found₀ a₀ found a = (a ≤ domains) × (found ≡ None) × (first a (gap-by-b rows domains) ≡ missing)
+Inv-search rows domains found₀ a₀ found a = (a ≤ domains) × (found ≡ None) × (first a (gap-by-b rows domains) ≡ nothing)
 
 abbrev μ-search : tie.MeasureT-search
 μ-search rows domains found₀ a₀ found a = domains - a

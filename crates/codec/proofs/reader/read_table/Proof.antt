@@ -3,7 +3,7 @@ use mathlib.Core.Path.{_≡_, sym, _∙_, ap}
 use native.Mathlib.Omega.{arith}
 use borrow.Author.Tests.{eq-eqb, ne-eqb}
 use Rattle.basis.specs.Tests.{pick}
-use Rattle.basis.specs.Search.{Sought, missing, found}
+use Rattle.basis.specs.Search.{Sought, nothing, found}
 use Rattle.flow.specs.Gap.{first-gap}
 use Rattle.flow.proofs.GapLaws.{sought, gap-sought}
 use Rattle.table.specs.Ranges.{domain-counts, thread-counts}

@@ -1,4 +1,4 @@
-use Rattle.table.specs.Legal.{legal, is-missing, place-legal}
+use Rattle.table.specs.Legal.{legal, is-nothing, place-legal}
 use Rattle.flow.proofs.GapLaws.{sought, gap-sought}
 use borrow.Author.Tests.{not-true, not-false}
 use mathlib.Core.Path.{_≡_, sym, _∙_}
@@ -56,7 +56,7 @@ places-are-legal-requires c κs = search needs
 
 -- Once the ranges and the rows have passed, what is left of the test.
 left : (c : tie.After-first-gap) → legal (c .before .before .before .before .before .before .before .before .before .args .t)
-    ≡ and (is-missing (sought (c .first-gap .result))) (every 32 (place-legal (c .before .before .before .before .before .before .before .before .before .args .t)))
+    ≡ and (is-nothing (sought (c .first-gap .result))) (every 32 (place-legal (c .before .before .before .before .before .before .before .before .before .args .t)))
 unfolding legal
 left c =
     let t : Table = c .before .before .before .before .before .before .before .before .before .args .t in
