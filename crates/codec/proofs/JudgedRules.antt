@@ -19,7 +19,7 @@ use Rattle.table.specs.Ranges.{range, within, field-range}
 use Rattle.table.specs.Legal.{taken}
 use Rattle.table.specs.declared.Thread.{Thread}
 use Rattle.table.proofs.RangeLaws.{within-low, within-high, within-is, field-range-by}
-use Rattle.codec.specs.Reader.{free}
+use Rattle.reader.specs.Reader.{free}
 use Rattle.codec.specs.Judging.{field-fault, fault, row-gap, wanted}
 
 -- The rule of the version, as a range.

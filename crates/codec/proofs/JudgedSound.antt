@@ -21,14 +21,14 @@ use Rattle.table.specs.Ranges.{range, within, domain-counts, thread-counts, fie
 use Rattle.table.specs.declared.Range.{Range}
 use Rattle.table.specs.declared.Thread.{Thread}
 use Rattle.table.proofs.RangeLaws.{within-low, within-high}
-use Rattle.codec.specs.declared.Cursor.{Cursor}
-use Rattle.codec.specs.declared.RowsRead.{RowsRead}
-use Rattle.codec.specs.declared.FieldsRead.{FieldsRead}
-use Rattle.codec.specs.declared.ThreadsRead.{ThreadsRead}
-use Rattle.codec.specs.Number.{encode-all}
-use Rattle.codec.specs.Reader.{ranged, row-from, put-row, rows-from, free, field-from, put-field, fields-from, thread-of, put-thread, threads-from, ended, whole-or-gap, after-rows, version-from, domains-from, count-from, reading}
+use Rattle.reader.specs.declared.Cursor.{Cursor}
+use Rattle.reader.specs.declared.RowsRead.{RowsRead}
+use Rattle.reader.specs.declared.FieldsRead.{FieldsRead}
+use Rattle.reader.specs.declared.ThreadsRead.{ThreadsRead}
+use Rattle.number.specs.Number.{encode-all}
+use Rattle.reader.specs.Reader.{ranged, row-from, put-row, rows-from, free, field-from, put-field, fields-from, thread-of, put-thread, threads-from, ended, whole-or-gap, after-rows, version-from, domains-from, count-from, reading}
 use Rattle.codec.specs.Judging.{fault, row-gap, wanted, Judgment}
-use Rattle.codec.proofs.NumberLaws.{Bytes}
+use Rattle.number.proofs.NumberLaws.{Bytes}
 use Rattle.codec.proofs.BeforeLaws.{before-nil, before-counts}
 use Rattle.codec.proofs.JudgedSteps.{Good, Stopped, Tested, gap-objection, stopped-judged, stopped-row, stopped-ranged, stopped-rows, stopped-field, stopped-fields, objected-by, test-step, one-step, ended-judged, stopped-ended, stopped-after, passed}
 use Rattle.codec.proofs.JudgedRules.{version-fault, row-fault, no-row-gap, last-row-gap, wanted-is, wanted-no, Agree, field-fault-is, thread-fault}

@@ -4,9 +4,9 @@ use mathlib.Core.List.{List}
 use mathlib.Core.Logic.{_↔_}
 use Prim.Native.Nat.{ℕ}
 use Rattle.basis.specs.Told.{Told}
-use Rattle.codec.specs.Reader.{reading}
+use Rattle.reader.specs.Reader.{reading}
 use Rattle.codec.specs.Judging.{Judgment}
-use Rattle.codec.proofs.NumberLaws.{Bytes}
+use Rattle.number.proofs.NumberLaws.{Bytes}
 use Rattle.codec.proofs.JudgedSound.{judged}
 use Rattle.codec.proofs.JudgedOnce.{judged-once}
 

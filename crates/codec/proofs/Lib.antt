@@ -1,7 +1,4 @@
-pub mod NumberLaws
-pub mod Runs
 pub mod FormatLaws
-pub mod ReaderLaws
 pub mod Sound
 pub mod Complete
 pub mod RoundTrip
@@ -11,5 +8,3 @@ pub mod JudgedSteps
 pub mod JudgedRules
 pub mod JudgedSound
 pub mod JudgingLaws
-pub mod WriterLaws
-pub mod LongestLaws

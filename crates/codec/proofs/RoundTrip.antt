@@ -15,10 +15,10 @@ use Rattle.basis.proofs.TestLaws.{by-test}
 use Rattle.table.specs.Legal.{legal, Sized, Legal}
 use Rattle.table.specs.declared.Table.{Table}
 use Rattle.table.proofs.LegalLaws.{legal-sound, legal-complete}
-use Rattle.codec.specs.Format.{bytes}
-use Rattle.codec.specs.Reader.{accepted, reading}
-use Rattle.codec.specs.Writer.{overlaid, writing, written}
-use Rattle.codec.proofs.NumberLaws.{Bytes}
+use Rattle.writer.specs.Format.{bytes}
+use Rattle.reader.specs.Reader.{accepted, reading}
+use Rattle.writer.specs.Writer.{overlaid, writing, written}
+use Rattle.number.proofs.NumberLaws.{Bytes}
 use Rattle.codec.proofs.Sound.{sound}
 use Rattle.codec.proofs.Complete.{complete}
 

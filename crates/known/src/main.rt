@@ -1,5 +1,5 @@
 // What document 01 knows by hand and asks to be run: K-12.
-use codec::Verdict;
+use reader::Verdict;
 
 // Whether no bytes at all give 1 at place 0.
 fn no_bytes() -> bool {

@@ -1,0 +1,3 @@
+pub mod Format
+pub mod Buffer
+pub mod Writer
