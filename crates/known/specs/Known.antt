@@ -3,7 +3,7 @@ use Prim.Native.Nat.{ℕ}
 use mathlib.Core.Path.{_≡_, refl}
 use mathlib.Core.List.{List, [], _∷_, _++_, map}
 use mathlib.Core.Bool.{Bool}
-use lib.ListN.{replicate}
+use lib.ListN.{set, take, replicate}
 use Rattle.basis.specs.Tests.{pick, every, some}
 use Rattle.basis.specs.Search.{first, listed}
 use Rattle.basis.specs.Told.{Told}
@@ -46,6 +46,10 @@ known =
     ∷ record { computed = bytes example; by-hand = example-bytes }
     ∷ record { computed = flat (reading example-bytes .told); by-hand = 0 ∷ [] }
     ∷ record { computed = written-out (reading example-bytes .table); by-hand = written-out example }
+    -- E without its last byte, with another fourth byte, and with one byte more
+    ∷ record { computed = flat (reading (take 18 example-bytes) .told); by-hand = 1 ∷ 18 ∷ [] }
+    ∷ record { computed = flat (reading (set example-bytes 3 0x07) .told); by-hand = 6 ∷ 3 ∷ [] }
+    ∷ record { computed = flat (reading (example-bytes ++ (0x00 ∷ [])) .told); by-hand = 10 ∷ 19 ∷ [] }
     -- K-1: in E thread 0 is marked, thread 1 is not
     ∷ record { computed = mark 0 ∷ mark 1 ∷ []; by-hand = 1 ∷ 0 ∷ [] }
     -- K-7: 128, 60,000 and 65,535; 2 and 3
