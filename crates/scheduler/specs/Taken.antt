@@ -1,0 +1,68 @@
+-- A call of the step: the number it is refused with, in the order 11, 12, 13, 14, 17, or the step itself.
+use Prim.Native.Nat.{ℕ}
+use mathlib.Core.List.{List, [], _∷_}
+use mathlib.Core.Bool.{Bool, false}
+use lib.ListN.{length}
+use lib.Dec.{eqb, ltb}
+use Rattle.basis.specs.Tests.{pick}
+use Rattle.basis.specs.Told.{Told, answered, refused}
+use Rattle.table.specs.Legal.{legal}
+use Rattle.table.specs.declared.Table.{Table}
+use Rattle.scheduler.specs.State.{progress, last-clock, fits}
+use Rattle.scheduler.specs.Step.{release, step}
+use Rattle.scheduler.specs.declared.State.{State}
+use Rattle.scheduler.specs.declared.Answer.{Answer}
+use Rattle.scheduler.specs.declared.Answer.the-variants.{Ran, IdleFor, Idle}
+use Rattle.scheduler.specs.declared.Walked.{Walked}
+use Rattle.scheduler.specs.declared.Outcome.{Outcome}
+use Rattle.scheduler.specs.declared.Outcome.the-variants.{Chose, Refused}
+use Rattle.scheduler.specs.declared.Stepped.{Stepped}
+
+-- The values of an answer: 0 and the thread that ran, 1 and the thread that the processor idles for, 2 for idle.
+abbrev pub values : Answer → List ℕ
+values (Ran i) = 0 ∷ i ∷ []
+values (IdleFor i) = 1 ∷ i ∷ []
+values Idle = 2 ∷ []
+
+-- Document 01's number and values of an outcome.
+abbrev pub told : Outcome → Told
+told (Chose a) = answered (values a)
+told (Refused why) = refused why
+
+-- What a call gives: its number and values, and a state.
+pub record Taken : Type 0 where
+  pub told : Told
+  pub state : State
+
+-- A refused step hands back the state it was given.
+abbrev pub refused-step : ℕ → State → Taken
+refused-step why s = record { told = refused why; state = s }
+
+abbrev pub took : Walked → Taken
+took w = record { told = answered (values (w .answer)); state = w .state }
+
+-- The thread chosen had a rest of 0 in the state s in which the walk began: no thread's rest changes before it is reached.
+abbrev pub unrested : Answer → State → Bool
+unrested (Ran i) s = eqb (progress s i .rest) 0
+unrested (IdleFor i) s = eqb (progress s i .rest) 0
+unrested Idle s = false
+
+-- 17, or the step.
+unfoldable pub rested : State → State → Walked → Taken
+rested s before w = pick (unrested (w .answer) before) (refused-step 17 s) (took w)
+
+unfoldable pub taken : Table → List ℕ → State → Taken
+taken t bs s =
+    pick (legal t)
+    (pick (fits t s)
+    (pick (eqb (length bs) (t .count))
+    (pick (ltb (s .clock) last-clock)
+    (rested s (release t (t .count) s) (step t bs s))
+    (refused-step 14 s))
+    (refused-step 13 s))
+    (refused-step 12 s))
+    (refused-step 11 s)
+
+-- What an answer of the code gives.
+abbrev pub taken-of : Stepped → Taken
+taken-of r = record { told = told (r .outcome); state = r .state }

@@ -1,0 +1,70 @@
+// The methods on the state that document 01 names, each by value: pay, finish, count and tick return the next state.
+ghost use mathlib.Core.Path.{_≡_};
+ghost use Prim.Native.Nat.{_<_};
+ghost use Rattle.scheduler.specs.State.{no-progress, progress, last-clock};
+ghost use Rattle.scheduler.specs.Step.{pay, finish, count, tick};
+use super::Progress;
+use super::State;
+
+pub fn no_progress() -> Progress
+    ensures { λ r. ⌜ r ≡ no-progress ⌝ }
+{
+    Progress {
+        rest: 0,
+        finished: false,
+        ran: 0,
+    }
+}
+
+impl State {
+    // Thread i pays one of its rest.
+    pub fn pay(mut self, i: u8) -> State
+        requires { ⌜ (i < 32) × (0 < progress self i .rest) ⌝ }
+        ensures { λ r. ⌜ r ≡ pay self i ⌝ }
+    {
+        let p = self.threads[i as usize];
+        self.threads[i as usize] = Progress {
+            rest: p.rest - 1,
+            finished: p.finished,
+            ran: p.ran,
+        };
+        self
+    }
+
+    // Thread i is marked as finished.
+    pub fn finish(mut self, i: u8) -> State
+        requires { ⌜ i < 32 ⌝ }
+        ensures { λ r. ⌜ r ≡ finish self i ⌝ }
+    {
+        let p = self.threads[i as usize];
+        self.threads[i as usize] = Progress {
+            rest: p.rest,
+            finished: true,
+            ran: p.ran,
+        };
+        self
+    }
+
+    // Thread i ran one step more.
+    pub fn count(mut self, i: u8) -> State
+        requires { ⌜ (i < 32) × (progress self i .ran < last-clock) ⌝ }
+        ensures { λ r. ⌜ r ≡ count self i ⌝ }
+    {
+        let p = self.threads[i as usize];
+        self.threads[i as usize] = Progress {
+            rest: p.rest,
+            finished: p.finished,
+            ran: p.ran + 1,
+        };
+        self
+    }
+
+    // The clock goes up by one.
+    pub fn tick(mut self) -> State
+        requires { ⌜ self .clock < last-clock ⌝ }
+        ensures { λ r. ⌜ r ≡ tick self ⌝ }
+    {
+        self.clock = self.clock + 1;
+        self
+    }
+}

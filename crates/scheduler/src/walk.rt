@@ -1,0 +1,152 @@
+// The walk: parts 2 to 4 of a step, and the step of a table that is known to be legal.
+ghost use mathlib.Core.Path.{_≡_};
+ghost use Prim.Native.Nat.{_<_, _≤_};
+ghost use lib.ListN.{length};
+ghost use lib.Dec.{eqb};
+ghost use Rattle.scheduler.specs.State.{progress, last-clock, Fits};
+ghost use Rattle.scheduler.specs.Given.{Usable, Counted, Below};
+ghost use Rattle.scheduler.specs.Order.{ranked};
+ghost use Rattle.scheduler.specs.Step.{runs, chosen, decided, visit, walk as the-walk, advance, release};
+ghost use Rattle.scheduler.specs.Taken.{unrested};
+use super::Answer;
+use super::Prepared;
+use super::Progress;
+use super::Ranks;
+use super::State;
+use super::Walked;
+use table::Table;
+
+// Whether a reached thread with this byte and progress runs.
+fn runs(b: u8, p: Progress) -> bool
+    ensures { λ r. ⌜ r ≡ runs b p ⌝ }
+{
+    if b != 1 {
+        return false;
+    }
+    !p.finished
+}
+
+// Whether the walk ends with this answer.
+fn is_chosen(a: Answer) -> bool
+    ensures { λ r. ⌜ r ≡ chosen a ⌝ }
+{
+    match a {
+        Answer::Ran(_) => true,
+        Answer::IdleFor(_) => true,
+        Answer::Idle => false,
+    }
+}
+
+// A thread that has paid and was heard runs, or the processor idles on its account, or the walk goes on.
+fn decide(marks: [bool; 32], s: State, i: u8, b: u8) -> Walked
+    requires { ⌜ (i < 32) × Counted 999999999 s ⌝ }
+    ensures { λ r. ⌜ r ≡ decided marks b i s ⌝ }
+{
+    let p = s.threads[i as usize];
+    if runs(b, p) {
+        let ran = s.count(i);
+        return Walked {
+            answer: Answer::Ran(i),
+            state: ran,
+        };
+    }
+    if marks[i as usize] {
+        return Walked {
+            answer: Answer::IdleFor(i),
+            state: s,
+        };
+    }
+    Walked {
+        answer: Answer::Idle,
+        state: s,
+    }
+}
+
+// The walk comes to thread i, whose byte is b.
+fn visit(marks: [bool; 32], s: State, i: u8, b: u8) -> Walked
+    requires { ⌜ (i < 32) × Counted 999999999 s ⌝ }
+    ensures { λ r. ⌜ r ≡ visit marks b i s ⌝ }
+{
+    let p = s.threads[i as usize];
+    if p.rest == 0 {
+        return Walked {
+            answer: Answer::Idle,
+            state: s,
+        };
+    }
+    let paid = s.pay(i);
+    if b == 2 {
+        return decide(marks, paid.finish(i), i, b);
+    }
+    decide(marks, paid, i, b)
+}
+
+// The walk over the ranked threads, left at the first that is chosen.
+fn walk(marks: [bool; 32], s: State, o: Ranks, bytes: &[u8]) -> Walked
+    requires { ⌜ (o .count ≤ 32) × Below (length (now bytes)) (ranked o) ⌝ }
+    requires { ⌜ Counted 999999999 s × (length (now bytes) ≤ 32) ⌝ }
+    ensures { λ r. ⌜ r ≡ the-walk marks (now (bytes .entry)) (ranked o) s ⌝ }
+{
+    let count = o.count as usize;
+    let mut next = s;
+    let mut k: usize = 0;
+    while k < count {
+        let i = o.at[k];
+        let b = bytes[i as usize];
+        let v = visit(marks, next, i, b);
+        let a = v.answer;
+        if is_chosen(a) {
+            return v;
+        }
+        let after = v.state;
+        next = after;
+        k += 1;
+    }
+    Walked {
+        answer: Answer::Idle,
+        state: next,
+    }
+}
+
+// One step of a legal table from a fitting state, with one byte a thread.
+pub fn advance(t: Table, p: Prepared, s: State, bytes: &[u8]) -> Walked
+    requires { ⌜ Usable t ⌝ }
+    requires { ⌜ (p .order .count ≤ 32) × Below (length (now bytes)) (ranked (p .order)) ⌝ }
+    requires { ⌜ Fits t s × (s .clock < last-clock) × (length (now bytes) ≤ 32) ⌝ }
+    ensures { λ r. ⌜ r ≡ advance t (p .marks) (ranked (p .order)) (now (bytes .entry)) s ⌝ }
+{
+    let o = p.order;
+    let marks = p.marks;
+    let fresh = s.release(t);
+    let w = walk(marks, fresh, o, bytes);
+    let a = w.answer;
+    let after = w.state;
+    Walked {
+        answer: a,
+        state: after.tick(),
+    }
+}
+
+// Whether the thread chosen had a rest of 0 when the walk began.
+pub fn is_unrested(t: Table, s: State, a: Answer) -> bool
+    requires { ⌜ Usable t ⌝ }
+    ensures { λ r. ⌜ r ≡ unrested a (release t (t .count) s) ⌝ }
+{
+    let before = s.release(t);
+    match a {
+        Answer::Ran(i) => has_none(before, i),
+        Answer::IdleFor(i) => has_none(before, i),
+        Answer::Idle => false,
+    }
+}
+
+// Whether thread i has no rest; a thread past the last place has none.
+fn has_none(s: State, i: u8) -> bool
+    ensures { λ r. ⌜ r ≡ eqb (progress s i .rest) 0 ⌝ }
+{
+    if 32 <= i {
+        return true;
+    }
+    let p = s.threads[i as usize];
+    p.rest == 0
+}
