@@ -20,6 +20,11 @@ unfolding pick
 either P true f g = f refl
 either P false f g = g refl
 
+pub both-ways : {A : Type 0} (P : A → Type 0) (b : Bool) (x y : A) → P x → P y → P (pick b x y)
+unfolding pick
+both-ways P true x y p q = p
+both-ways P false x y p q = q
+
 -- Two choices by equal tests are related if the values are.
 pub both : {A : Type 0} (R : A → A → Type 0) (b c : Bool) {x x′ y y′ : A} → b ≡ c
     → (b ≡ true → R x x′) → (b ≡ false → R y y′) → R (pick b x y) (pick c x′ y′)

@@ -1,0 +1,126 @@
+-- The test of a state says exactly that it fits, and a step hands back a state that fits again, its clock one more.
+use Prim.Native.Nat.{ℕ, _+_, _-_, _≤_, _<_, zero-le}
+use mathlib.Core.Path.{_≡_, refl, sym, _∙_, ap, subst}
+use mathlib.Core.List.{List}
+use mathlib.Core.Bool.{Bool, true, false, not}
+use native.Mathlib.Omega.{arith}
+use native.Mathlib.Nat.{le-refl}
+use borrow.Author.Tests.{lt-ltb, le-ltb, leb-true, le-leb, eqb-true, not-true, ltb-true, ltb-false}
+use lib.ListN.{length, replicate, List·getD-eq-default, length-replicate}
+use lib.Dec.{ltb, leb, eqb}
+use Rattle.basis.specs.Tests.{pick, and, every}
+use Rattle.basis.proofs.TestLaws.{by-test, both-ways, and-both, and-of, every-at, every-all}
+use Rattle.basis.proofs.ListLaws.{all-alike}
+use Rattle.table.specs.Threads.{thread}
+use Rattle.table.specs.Mark.{marks-of}
+use Rattle.table.specs.declared.Table.{Table}
+use Rattle.table.specs.declared.Thread.{Thread}
+use Rattle.scheduler.specs.declared.Progress.{Progress}
+use Rattle.scheduler.specs.declared.State.{State}
+use Rattle.scheduler.specs.State.{no-progress, progress, fresh, last-clock, place-fits, fits, Place-fits, Fits}
+use Rattle.scheduler.specs.Given.{Each, Below}
+use Rattle.scheduler.specs.Order.{order}
+use Rattle.scheduler.specs.Step.{at-phase, released, release, walk, tick, ticked, advance, step}
+use Rattle.scheduler.proofs.WalkLaws.{Kept, walk-each, walk-clock, walk-length, release-each, release-clock, release-length, released-ran}
+
+-- A record is equal to another by its fields; at fields of a variable this is the variable itself.
+whole : {a c : ℕ} {b : Bool} → a ≡ 0 → b ≡ false → c ≡ 0 → _≡_ {A = Progress} (record { rest = a; finished = b; ran = c }) no-progress
+whole p q r = cc
+
+module _ (t : Table) (c : ℕ) where
+  place-sound : (i : ℕ) (p : Progress) → place-fits t c i p ≡ true → Place-fits t c i p
+  unfolding place-fits pick
+  place-sound i p e = by-test (ltb i (t .count))
+      (λ l. let b = and-both (leb (p .rest) (thread t i .budget)) _ (rw l at e) in
+      record { rest-high = λ u. leb-true _ _ (b .0); ran-high = leb-true _ _ (b .1); unused = λ u. absurd (omega (arith, ltb-true i (t .count) l)) })
+      (λ l. let b = and-both (eqb (p .rest) 0) _ (rw l at e) in
+      let d = and-both (not (p .finished)) _ (b .1) in
+      let n : p .ran ≡ 0 = eqb-true _ _ (d .1) in
+      record {
+        rest-high = λ u. absurd (omega (arith, ltb-false i (t .count) l));
+        ran-high = omega arith;
+        unused = λ u. whole (eqb-true _ _ (b .0)) (not-true _ (d .0)) n;
+      })
+
+  place-complete : (i : ℕ) (p : Progress) → Place-fits t c i p → place-fits t c i p ≡ true
+  unfolding place-fits pick
+  place-complete i p f = by-test (ltb i (t .count))
+      (λ l. rw l (and-of (le-leb _ _ (f .rest-high (ltb-true i (t .count) l))) (le-leb _ _ (f .ran-high))))
+      (λ l. rw (l, f .unused (ltb-false i (t .count) l)))
+
+  zero-fits : (i : ℕ) → t .count ≤ i → Place-fits t c i no-progress
+  zero-fits i l = record { rest-high = λ u. zero-le; ran-high = zero-le; unused = λ u. refl }
+
+-- The law of `fits`.
+pub fits-sound : (t : Table) (s : State) → t .count ≤ 32 → length (s .threads) ≡ 32 → fits t s ≡ true → Fits t s
+unfolding fits
+fits-sound t s few h e =
+    let b = and-both (leb (s .clock) last-clock) _ e in
+    record {
+      clock-high = leb-true _ _ (b .0);
+      long = h;
+      places = λ i. by-test (ltb i 32)
+          (λ l. place-sound t (s .clock) i _ (every-at _ 32 i (b .1) (ltb-true i 32 l)))
+          (λ l. let k : 32 ≤ i = ltb-false i 32 l in
+          rw (List·getD-eq-default (s .threads) no-progress {n = i} (omega arith)) (zero-fits t (s .clock) i (omega arith)));
+    }
+
+pub fits-complete : (t : Table) (s : State) → Fits t s → fits t s ≡ true
+unfolding fits
+fits-complete t s f = and-of (le-leb _ _ (f .clock-high)) (every-all _ 32 (λ i l. place-complete t (s .clock) i _ (f .places i)))
+
+-- A fresh state fits every table.
+pub fresh-fits : (t : Table) → Fits t fresh
+unfolding fresh
+fresh-fits t = record {
+  clock-high = zero-le;
+  long = length-replicate 32 no-progress;
+  places = λ i. rw (all-alike 32 i no-progress) (record { rest-high = λ u. zero-le; ran-high = zero-le; unused = λ u. refl });
+}
+
+released-rest : (th : Thread) (k : ℕ) (p : Progress) → p .rest ≤ th .budget → released th k p .rest ≤ th .budget
+unfolding released at-phase
+released-rest th k p h =
+    let R : Progress → Type 0 = λ x. x .rest ≤ th .budget in
+    both-ways R _ _ _ h (both-ways R _ _ _ (le-refl _) (both-ways R _ _ _ zero-le h))
+
+module _ (t : Table) (c : ℕ) where
+  kept-fit : Kept (t .count) (Place-fits t c)
+  kept-fit = record {
+    pays = λ i p l h. record { rest-high = λ u. omega (arith, h .rest-high u); ran-high = h .ran-high; unused = λ u. absurd (omega arith) };
+    finishes = λ i p l h. record { rest-high = h .rest-high; ran-high = h .ran-high; unused = λ u. absurd (omega arith) };
+  }
+
+  released-fits : (k i : ℕ) (p : Progress) → i < t .count → Place-fits t c i p → Place-fits t c i (released (thread t i) k p)
+  released-fits k i p l h = record {
+    rest-high = λ u. released-rest (thread t i) k p (h .rest-high u);
+    ran-high = rw released-ran (h .ran-high);
+    unused = λ u. absurd (omega arith);
+  }
+
+  later-fits : (i : ℕ) (p : Progress) → Place-fits t c i p → Place-fits t (c + 1) i p
+  later-fits i p h = record { rest-high = h .rest-high; ran-high = omega (arith, h .ran-high); unused = h .unused }
+
+pub release-fits : (t : Table) (s : State) → Fits t s → Each (Place-fits t (s .clock)) (release t (t .count) s)
+release-fits t s f =
+    release-each t (Place-fits t (s .clock)) s (released-fits t (s .clock) (s .clock)) (t .count) (le-refl _) (record { at = f .places })
+
+module _ (t : Table) (m : List Bool) (is bs : List ℕ) (s : State) where
+  pub advance-clock : advance t m is bs s .state .clock ≡ s .clock + 1
+  unfolding advance ticked tick
+  advance-clock = rw (walk-clock, release-clock)
+
+  -- a step over any list of threads of the table
+  pub advance-fits : Below (t .count) is → Fits t s → s .clock < last-clock → Fits t (advance t m is bs s .state)
+  unfolding advance ticked tick
+  advance-fits l f h =
+      let c = s .clock in
+      let w : Each (Place-fits t (c + 1)) (walk m bs is (release t (t .count) s) .state)
+      = walk-each m (t .count) (Place-fits t c) (kept-fit t c) (Place-fits t (c + 1)) (later-fits t c)
+      (λ i p l k. record { rest-high = k .rest-high; ran-high = omega (arith, k .ran-high); unused = λ u. absurd (omega arith) })
+      bs is _ l (release-fits t s f) in
+      record {
+        clock-high = rw (walk-clock, release-clock) (omega arith);
+        long = rw (walk-length, release-length) (f .long);
+        places = λ i. subst (λ (k : ℕ). Place-fits t k i (progress (walk m bs is (release t (t .count) s) .state) i)) (sym advance-clock) (w .at i);
+      }
