@@ -56,7 +56,7 @@ pub record Kept (n : ℕ) (P : ℕ → Progress → Type 0) : Type 0 where
   pub pays : (i : ℕ) (p : Progress) → i < n → P i p → P i (paid p)
   pub finishes : (i : ℕ) (p : Progress) → i < n → P i p → P i (done p)
 
-module _ (m : List Bool) (n : ℕ) (P : ℕ → Progress → Type 0) (kept : Kept n P) where
+module _ (n : ℕ) (P : ℕ → Progress → Type 0) (kept : Kept n P) where
   pub pay-each : (i : ℕ) (s : State) → i < n → Each P s → Each P (pay s i)
   unfolding pay
   pay-each i s l h = put-each P s i _ h (kept .pays i _ l (h .at i))
@@ -71,11 +71,12 @@ module _ (m : List Bool) (n : ℕ) (P : ℕ → Progress → Type 0) (kept : Kep
       let k : Each P (pay s i) = pay-each i s l h in
       both-ways (Each P) _ _ _ (finish-each i _ l k) k
 
+module _ (m : List Bool) (n : ℕ) (P : ℕ → Progress → Type 0) (kept : Kept n P) where
   -- a visit that chooses nobody
   pub passed-each : (b i : ℕ) (s : State) → i < n → Each P s → chosen (visit m b i s .answer) ≡ false → Each P (visit m b i s .state)
   unfolding visit decided
   passed-each b i s l h =
-      let k : Each P (heard b i (pay s i)) = heard-each b i s l h in
+      let k : Each P (heard b i (pay s i)) = heard-each n P kept b i s l h in
       let R : Walked → Type 0 = λ w. chosen (w .answer) ≡ false → Each P (w .state) in
       both-ways R _ _ _ (λ _. h) (both-ways R _ _ _ (λ e. absurd (true≢false e)) (both-ways R _ _ _ (λ _. k) (λ _. k)))
 
@@ -87,7 +88,7 @@ module _ (m : List Bool) (n : ℕ) (P : ℕ → Progress → Type 0) (kept : Kep
     visit-each : (b i : ℕ) (s : State) → i < n → Each P s → Each Q (visit m b i s .state)
     unfolding visit decided count
     visit-each b i s l h =
-        let k : Each P (heard b i (pay s i)) = heard-each b i s l h in
+        let k : Each P (heard b i (pay s i)) = heard-each n P kept b i s l h in
         let R : Walked → Type 0 = λ w. Each Q (w .state) in
         let c : Each Q (count (heard b i (pay s i)) i) = put-each Q (heard b i (pay s i)) i _ (weak _ k) (counts i _ l (k .at i)) in
         both-ways R _ _ _ (weak s h) (both-ways R _ _ _ c (both-ways R _ _ _ (weak _ k) (weak _ k)))

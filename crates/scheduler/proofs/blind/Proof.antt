@@ -1,3 +1,4 @@
+use mathlib.Core.Path.{refl}
 use borrow.Author.Needs.{needs}
 use Rattle.scheduler.proofs.blind.Statement.{statement}
 use Rattle.scheduler.proofs.blind.Tie as tie
@@ -5,13 +6,11 @@ use Rattle.scheduler.proofs.blind.Reads as reads
 use Rattle.scheduler.proofs.blind.Lts as lts
 use Rattle.scheduler.proofs.methods.no_progress.Reads as no-progress-reads
 
--- src/lib.rt:167:9
 no-progress-requires : tie.Need-no-progress-requires
 no-progress-requires c κs = search needs
 
--- src/lib.rt:164:1
 returns : tie.Need-returns
-returns c = search needs
+returns c = (refl, rw (c .no-progress .ensures))
 
 pub blind-spec : {M : Type 1} → statement M
 blind-spec = tie.close (tie.spec no-progress-requires returns)

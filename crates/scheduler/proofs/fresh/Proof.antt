@@ -1,3 +1,5 @@
+use Rattle.scheduler.specs.State.{fresh}
+use mathlib.Core.Path.{refl}
 use borrow.Author.Needs.{needs}
 use Rattle.scheduler.proofs.fresh.Statement.{statement}
 use Rattle.scheduler.proofs.fresh.Tie as tie
@@ -5,13 +7,12 @@ use Rattle.scheduler.proofs.fresh.Reads as reads
 use Rattle.scheduler.proofs.fresh.Lts as lts
 use Rattle.scheduler.proofs.methods.no_progress.Reads as no-progress-reads
 
--- src/lib.rt:106:9
 no-progress-requires : tie.Need-no-progress-requires
 no-progress-requires c κs = search needs
 
--- src/lib.rt:103:1
 returns : tie.Need-returns
-returns c = search needs
+unfolding fresh
+returns c = rw (c .no-progress .ensures)
 
 pub fresh-spec : {M : Type 1} → statement M
 fresh-spec = tie.close (tie.spec no-progress-requires returns)

@@ -1,3 +1,9 @@
+use Rattle.scheduler.specs.Step.{release}
+use native.Mathlib.Omega.{arith}
+use native.Mathlib.Nat.{le-antisymm}
+use native.Mathlib.Numerals.{add-one}
+use mathlib.Core.Path.{_≡_, refl, sym, _∙_}
+use Prim.Native.Nat.{ℕ, zero, suc, _≤_, _<_, _-_, _+_}
 use borrow.Author.Needs.{needs}
 use Rattle.scheduler.proofs.State.release.Statement.{statement}
 use Rattle.scheduler.proofs.State.release.Tie as tie
@@ -6,62 +12,51 @@ use Rattle.scheduler.proofs.State.release.Lts as lts
 use Rattle.scheduler.proofs.release.released.Reads as released-reads
 
 abbrev Inv-loop : tie.InvT-loop
-Inv-loop t clock count next₀ i₀ next i = ?
+Inv-loop t clock count next₀ i₀ next i = (i ≤ count) × (next ≡ release t i next₀)
 
 abbrev μ-loop : tie.MeasureT-loop
-μ-loop t clock count next₀ i₀ next i = ?
+μ-loop t clock count next₀ i₀ next i = count - i
 
--- src/release.rt:47:21
 cast-count : tie.Need-cast-count Inv-loop μ-loop
 cast-count c = search needs
 
--- src/release.rt:50:9
 loop-holds : tie.Need-loop-holds Inv-loop μ-loop
+unfolding release
 loop-holds c = search needs
 
--- src/release.rt:51:22
 mul-th : tie.Need-mul-th Inv-loop μ-loop
 mul-th c = search needs
 
--- src/release.rt:51:22
 element-copy-out-th : tie.Need-element-copy-out-th Inv-loop μ-loop
 element-copy-out-th c = search needs
 
--- src/release.rt:52:21
 mul-p : tie.Need-mul-p Inv-loop μ-loop
 mul-p c = search needs
 
--- src/release.rt:52:21
 element-copy-out-p : tie.Need-element-copy-out-p Inv-loop μ-loop
 element-copy-out-p c = search needs
 
--- src/release.rt:53:31
 released-requires : tie.Need-released-requires Inv-loop μ-loop
-released-requires c κs = search needs
+released-requires c κs = c .before .before .before .before .pre .period _ (c .before .before .loop-test .taken)
 
--- src/release.rt:53:13
 mul-t12 : tie.Need-mul-t12 Inv-loop μ-loop
 mul-t12 c = search needs
 
--- src/release.rt:53:13
 element-set-from-next : tie.Need-element-set-from-next Inv-loop μ-loop
 element-set-from-next c = search needs
 
--- src/release.rt:54:13
 add-i : tie.Need-add-i Inv-loop μ-loop
 add-i c = search needs
 
--- src/release.rt:50:9
 loop-less : tie.Need-loop-less Inv-loop μ-loop
 loop-less c = search needs
 
--- src/release.rt:50:9
 loop-again : tie.Need-loop-again Inv-loop μ-loop
-loop-again c = search needs
+unfolding release
+loop-again c = (search needs, rw add-one (cc))
 
--- src/release.rt:42:5
 returns : tie.Need-returns Inv-loop μ-loop
-returns c = search needs
+returns c = cc (le-antisymm (c .before .loop .inv .0) (c .loop-test .left))
 
 pub release-spec : {M : Type 1} → statement M
 release-spec =

@@ -1,15 +1,15 @@
+use Rattle.scheduler.specs.Step.{tick}
 use borrow.Author.Needs.{needs}
 use Rattle.scheduler.proofs.State.tick.Statement.{statement}
 use Rattle.scheduler.proofs.State.tick.Tie as tie
 use Rattle.scheduler.proofs.State.tick.Reads as reads
 use Rattle.scheduler.proofs.State.tick.Lts as lts
 
--- src/methods.rt:67:22
 add-self : tie.Need-add-self
 add-self c = search needs
 
--- src/methods.rt:63:5
 returns : tie.Need-returns
+unfolding tick
 returns c = search needs
 
 pub tick-spec : {M : Type 1} → statement M

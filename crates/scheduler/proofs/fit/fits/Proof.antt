@@ -1,3 +1,12 @@
+use Rattle.scheduler.specs.State.{progress, place-fits, fits}
+use Rattle.basis.proofs.TestLaws.{and-false, every-none, every-next, every-fails}
+use Rattle.basis.specs.Tests.{every}
+use lib.Dec.{leb}
+use borrow.Author.Tests.{lt-leb, le-leb, not-true, not-false}
+use Prim.Native.Nat.{ℕ, _≤_, _-_}
+use mathlib.Core.Bool.{Bool, true, false}
+use mathlib.Core.Path.{_≡_, sym, _∙_}
+use native.Mathlib.Nat.{le-antisymm}
 use borrow.Author.Needs.{needs}
 use Rattle.scheduler.proofs.fit.fits.Statement.{statement}
 use Rattle.scheduler.proofs.fit.fits.Tie as tie
@@ -6,54 +15,50 @@ use Rattle.scheduler.proofs.fit.fits.Lts as lts
 use Rattle.scheduler.proofs.fit.place_fits.Reads as place-fits-reads
 
 abbrev Inv-loop : tie.InvT-loop
-Inv-loop t s clock i₀ i = ?
+Inv-loop t s clock i₀ i = (i ≤ 32) × (every i (λ j. place-fits t clock j (progress s j)) ≡ true)
 
 abbrev μ-loop : tie.MeasureT-loop
-μ-loop t s clock i₀ i = ?
+μ-loop t s clock i₀ i = 32 - i
 
--- src/fit.rt:35:9
+-- The test of one place, in a turn.
+abbrev test : tie.In-loop Inv-loop μ-loop → ℕ → Bool
+test l j = place-fits (l .before .before .before .args .t) (l .before .before .before .args .t2 .clock) j (progress (l .before .before .before .args .t2) j)
+
 returns : tie.Need-returns Inv-loop μ-loop
-returns c = search needs
+unfolding fits
+returns c = simp (lt-leb _ _ (c .if1 .taken))
 
--- src/fit.rt:38:5
 loop-holds : tie.Need-loop-holds Inv-loop μ-loop
-loop-holds c = search needs
+loop-holds c = (search needs, every-none _)
 
--- src/fit.rt:39:27
 cast-p : tie.Need-cast-p Inv-loop μ-loop
 cast-p c = search needs
 
--- src/fit.rt:39:17
 mul-p : tie.Need-mul-p Inv-loop μ-loop
 mul-p c = search needs
 
--- src/fit.rt:39:17
 element-copy-out-p : tie.Need-element-copy-out-p Inv-loop μ-loop
 element-copy-out-p c = search needs
 
--- src/fit.rt:40:13
 place-fits-requires : tie.Need-place-fits-requires Inv-loop μ-loop
 place-fits-requires c κs = search needs
 
--- src/fit.rt:41:13
 returns-2 : tie.Need-returns-2 Inv-loop μ-loop
-returns-2 c = search needs
+unfolding fits
+returns-2 c = let l = c .before .before .before in let e : test l (l .before .loop .i) ≡ false = sym (c .before .place-fits .ensures) ∙ not-true _ (c .if2 .taken) in simp (every-fails (test l) (l .before .loop .i) 32 e (l .loop-test .taken)) (sym (and-false (leb (l .before .before .before .args .t2 .clock) 1000000000)))
 
--- src/fit.rt:43:9
 add-i : tie.Need-add-i Inv-loop μ-loop
 add-i c = search needs
 
--- src/fit.rt:38:5
 loop-less : tie.Need-loop-less Inv-loop μ-loop
 loop-less c = search needs
 
--- src/fit.rt:38:5
 loop-again : tie.Need-loop-again Inv-loop μ-loop
-loop-again c = search needs
+loop-again c = let l = c .before .before .before in (search needs, every-next (test l) (l .before .loop .i) (l .before .loop .inv .1) (sym (c .before .place-fits .ensures) ∙ not-false _ (c .if2 .left)))
 
--- src/fit.rt:30:1
 returns-3 : tie.Need-returns-3 Inv-loop μ-loop
-returns-3 c = search needs
+unfolding fits
+returns-3 c = let e = le-antisymm (c .before .loop .inv .0) (c .loop-test .left) in simp (le-leb _ _ (c .before .before .if1 .left)) (sym (rw e at (c .before .loop .inv .1)))
 
 pub fits-spec : {M : Type 1} → statement M
 fits-spec =

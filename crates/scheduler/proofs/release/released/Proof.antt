@@ -1,40 +1,39 @@
+use Rattle.basis.specs.Tests.{pick}
+use Rattle.scheduler.specs.Step.{at-phase, released}
+use borrow.Author.Tests.{lt-ltb, le-ltb, eq-eqb, ne-eqb, le-leb, lt-leb}
 use borrow.Author.Needs.{needs}
 use Rattle.scheduler.proofs.release.released.Statement.{statement}
 use Rattle.scheduler.proofs.release.released.Tie as tie
 use Rattle.scheduler.proofs.release.released.Reads as reads
 use Rattle.scheduler.proofs.release.released.Lts as lts
 
--- src/release.rt:16:18
 cast-offset : tie.Need-cast-offset
 cast-offset c = search needs
 
--- src/release.rt:17:20
 cast-deadline : tie.Need-cast-deadline
 cast-deadline c = search needs
 
--- src/release.rt:18:18
 cast-period : tie.Need-cast-period
 cast-period c = search needs
 
--- src/release.rt:20:9
 returns : tie.Need-returns
-returns c = search needs
+unfolding pick released
+returns c = simp (lt-ltb _ _ (c .if1 .taken))
 
--- src/release.rt:22:17
 rem-phase : tie.Need-rem-phase
 rem-phase c = search needs
 
--- src/release.rt:24:9
 returns-2 : tie.Need-returns-2
-returns-2 c = search needs
+unfolding pick released at-phase
+returns-2 c = simp (le-ltb _ _ (c .before .if1 .left), eq-eqb _ _ (c .if2 .taken))
 
--- src/release.rt:31:9
 returns-3 : tie.Need-returns-3
-returns-3 c = search needs
+unfolding pick released at-phase
+returns-3 c = simp (le-ltb _ _ (c .before .before .if1 .left), ne-eqb _ _ (c .before .if2 .left), le-leb _ _ (c .if3 .taken))
 
--- src/release.rt:12:1
 returns-4 : tie.Need-returns-4
-returns-4 c = search needs
+unfolding pick released at-phase
+returns-4 c = simp (le-ltb _ _ (c .before .before .if1 .left), ne-eqb _ _ (c .before .if2 .left), lt-leb _ _ (c .if3 .left))
 
 pub released-spec : {M : Type 1} → statement M
 released-spec =

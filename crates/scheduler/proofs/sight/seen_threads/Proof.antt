@@ -1,3 +1,14 @@
+use Rattle.scheduler.specs.Shown.{visible, seen-threads}
+use Rattle.scheduler.specs.State.{no-progress, progress}
+use Rattle.basis.proofs.SearchLaws.{listed-none, listed-next}
+use Rattle.basis.specs.Search.{listed}
+use Rattle.basis.specs.Tests.{pick}
+use native.Mathlib.Omega.{arith}
+use native.Mathlib.Nat.{le-antisymm}
+use lib.ListN.{replicate}
+use mathlib.Core.List.{_++_, append-nil}
+use mathlib.Core.Path.{_≡_, refl, sym, _∙_}
+use Prim.Native.Nat.{_≤_, _-_}
 use borrow.Author.Needs.{needs}
 use Rattle.scheduler.proofs.sight.seen_threads.Statement.{statement}
 use Rattle.scheduler.proofs.sight.seen_threads.Tie as tie
@@ -7,50 +18,41 @@ use Rattle.scheduler.proofs.methods.no_progress.Reads as no-progress-re
 use Rattle.scheduler.proofs.sight.seen.Reads as seen-reads
 
 abbrev Inv-loop : tie.InvT-loop
-Inv-loop t d s out₀ i₀ out i = ?
+Inv-loop t d s out₀ i₀ out i = (i ≤ 32) × (out ≡ listed i (λ j. pick (visible t d j) (progress s j) no-progress) ++ replicate (32 - i) no-progress)
 
 abbrev μ-loop : tie.MeasureT-loop
-μ-loop t d s out₀ i₀ out i = ?
+μ-loop t d s out₀ i₀ out i = 32 - i
 
--- src/sight.rt:60:9
 no-progress-requires : tie.Need-no-progress-requires Inv-loop μ-loop
 no-progress-requires c κs = search needs
 
--- src/sight.rt:62:5
 loop-holds : tie.Need-loop-holds Inv-loop μ-loop
-loop-holds c = search needs
+loop-holds c = (search needs, rw (c .no-progress .ensures) (listed-none _ no-progress 32))
 
--- src/sight.rt:63:27
 seen-requires : tie.Need-seen-requires Inv-loop μ-loop
 seen-requires c κs = search needs
 
--- src/sight.rt:63:13
 cast-out : tie.Need-cast-out Inv-loop μ-loop
 cast-out c = search needs
 
--- src/sight.rt:63:9
 mul-out : tie.Need-mul-out Inv-loop μ-loop
 mul-out c = search needs
 
--- src/sight.rt:63:9
 array-set-from-out : tie.Need-array-set-from-out Inv-loop μ-loop
 array-set-from-out c = search needs
 
--- src/sight.rt:62:9
 add-i : tie.Need-add-i Inv-loop μ-loop
 add-i c = search needs
 
--- src/sight.rt:62:5
 loop-less : tie.Need-loop-less Inv-loop μ-loop
 loop-less c = search needs
 
--- src/sight.rt:62:5
 loop-again : tie.Need-loop-again Inv-loop μ-loop
-loop-again c = search needs
+loop-again c = let l = c .before .before in (search needs, rw (l .loop .inv .1, c .seen .ensures) (listed-next (λ j. pick (visible (l .before .before .args .t) (l .before .before .args .d) j) (progress (l .before .before .args .s) j) no-progress) no-progress (l .loop .i) 32 (omega arith)))
 
--- src/sight.rt:56:1
 returns : tie.Need-returns Inv-loop μ-loop
-returns c = search needs
+unfolding seen-threads
+returns c = let e : c .before .loop .i ≡ 32 = le-antisymm (c .before .loop .inv .0) (c .loop-test .left) in (rw e at (c .before .loop .inv .1)) ∙ append-nil _
 
 pub seen-threads-spec : {M : Type 1} → statement M
 seen-threads-spec =

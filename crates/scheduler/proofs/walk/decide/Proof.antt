@@ -1,3 +1,7 @@
+use Rattle.scheduler.specs.Step.{decided}
+use Rattle.basis.specs.Tests.{pick}
+use mathlib.Core.Path.{sym, _∙_}
+use native.Mathlib.Omega.{arith}
 use borrow.Author.Needs.{needs}
 use Rattle.scheduler.proofs.walk.decide.Statement.{statement}
 use Rattle.scheduler.proofs.walk.decide.Tie as tie
@@ -6,37 +10,32 @@ use Rattle.scheduler.proofs.walk.decide.Lts as lts
 use Rattle.scheduler.proofs.State.count.Reads as count-reads
 use Rattle.scheduler.proofs.walk.runs.Reads as runs-reads
 
--- src/walk.rt:45:13
 mul-p : tie.Need-mul-p
 mul-p c = search needs
 
--- src/walk.rt:45:13
 element-copy-out-p : tie.Need-element-copy-out-p
 element-copy-out-p c = search needs
 
--- src/walk.rt:46:8
 runs-requires : tie.Need-runs-requires
 runs-requires c κs = search needs
 
--- src/walk.rt:47:13
 count-requires : tie.Need-count-requires
-count-requires c κs = search needs
+count-requires c κs = let s = c .before .before .before in omega (arith, s .pre .1 .at (s .args .i))
 
--- src/walk.rt:48:9
 returns : tie.Need-returns
-returns c = search needs
+unfolding pick decided
+returns c = simp (sym (c .before .before .runs .ensures) ∙ c .before .if1 .taken, c .count .ensures)
 
--- src/walk.rt:53:8
 array-read-if2 : tie.Need-array-read-if2
 array-read-if2 c = search needs
 
--- src/walk.rt:54:9
 returns-2 : tie.Need-returns-2
-returns-2 c = search needs
+unfolding pick decided
+returns-2 c = simp (sym (c .before .before .runs .ensures) ∙ c .before .if1 .left, c .if2 .taken)
 
--- src/walk.rt:41:1
 returns-3 : tie.Need-returns-3
-returns-3 c = search needs
+unfolding pick decided
+returns-3 c = simp (sym (c .before .before .runs .ensures) ∙ c .before .if1 .left, c .if2 .left)
 
 pub decide-spec : {M : Type 1} → statement M
 decide-spec =

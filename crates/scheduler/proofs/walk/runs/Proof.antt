@@ -1,16 +1,18 @@
+use Rattle.scheduler.specs.Step.{runs}
+use borrow.Author.Tests.{eq-eqb, ne-eqb}
 use borrow.Author.Needs.{needs}
 use Rattle.scheduler.proofs.walk.runs.Statement.{statement}
 use Rattle.scheduler.proofs.walk.runs.Tie as tie
 use Rattle.scheduler.proofs.walk.runs.Reads as reads
 use Rattle.scheduler.proofs.walk.runs.Lts as lts
 
--- src/walk.rt:24:9
 returns : tie.Need-returns
-returns c = search needs
+unfolding runs
+returns c = simp (ne-eqb _ _ (c .if1 .taken))
 
--- src/walk.rt:20:1
 returns-2 : tie.Need-returns-2
-returns-2 c = search needs
+unfolding runs
+returns-2 c = simp (eq-eqb _ _ (c .before .if1 .left))
 
 pub runs-spec : {M : Type 1} → statement M
 runs-spec = tie.close (tie.spec returns returns-2)

@@ -1,3 +1,8 @@
+use Rattle.scheduler.proofs.WalkLaws.{kept-counts, pay-each, finish-each}
+use Rattle.scheduler.specs.Step.{visit, heard}
+use Rattle.basis.specs.Tests.{pick}
+use borrow.Author.Tests.{eq-eqb, ne-eqb}
+use mathlib.Core.Path.{sym, _∙_}
 use borrow.Author.Needs.{needs}
 use Rattle.scheduler.proofs.walk.visit.Statement.{statement}
 use Rattle.scheduler.proofs.walk.visit.Tie as tie
@@ -7,41 +12,35 @@ use Rattle.scheduler.proofs.State.finish.Reads as finish-reads
 use Rattle.scheduler.proofs.State.pay.Reads as pay-reads
 use Rattle.scheduler.proofs.walk.decide.Reads as decide-reads
 
--- src/walk.rt:70:13
 mul-p : tie.Need-mul-p
 mul-p c = search needs
 
--- src/walk.rt:70:13
 element-copy-out-p : tie.Need-element-copy-out-p
 element-copy-out-p c = search needs
 
--- src/walk.rt:72:9
 returns : tie.Need-returns
-returns c = search needs
+unfolding pick visit
+returns c = simp (eq-eqb _ _ (c .if1 .taken))
 
--- src/walk.rt:77:9
 pay-requires : tie.Need-pay-requires
 pay-requires c κs = search needs
 
--- src/walk.rt:79:30
 finish-requires : tie.Need-finish-requires
 finish-requires c κs = search needs
 
--- src/walk.rt:79:9
 decide-requires : tie.Need-decide-requires
-decide-requires c κs = search needs
+decide-requires c κs = let s = c .before .before .before .before .before .before in let k = kept-counts 32 999999999 in let h = pay-each 32 _ k (s .args .i) _ (s .pre .0) (s .pre .1) in (s .pre .0, rw (c .finish .ensures, c .before .before .pay .ensures) (finish-each 32 _ k (s .args .i) _ (s .pre .0) h))
 
--- src/walk.rt:79:9
 returns-2 : tie.Need-returns-2
-returns-2 c = search needs
+unfolding pick visit heard
+returns-2 c = simp (ne-eqb _ _ (c .before .before .before .before .if1 .left), eq-eqb _ _ (c .before .before .if2 .taken)) (cc)
 
--- src/walk.rt:81:5
 decide-requires-2 : tie.Need-decide-requires-2
-decide-requires-2 c κs = search needs
+decide-requires-2 c κs = let s = c .before .before .before .before .before in (s .pre .0, rw (c .before .pay .ensures) (pay-each 32 _ (kept-counts 32 999999999) _ _ (s .pre .0) (s .pre .1)))
 
--- src/walk.rt:66:1
 returns-3 : tie.Need-returns-3
-returns-3 c = search needs
+unfolding pick visit heard
+returns-3 c = simp (ne-eqb _ _ (c .before .before .before .if1 .left), ne-eqb _ _ (c .before .if2 .left)) (cc)
 
 pub visit-spec : {M : Type 1} → statement M
 visit-spec =
