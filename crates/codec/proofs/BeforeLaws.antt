@@ -18,11 +18,11 @@ use Rattle.flow.proofs.FlowLaws.{row-small}
 use Rattle.table.specs.Ranges.{within, domain-counts, thread-counts, field-range, field-ranges}
 use Rattle.table.specs.declared.Range.{Range}
 use Rattle.table.proofs.RangeLaws.{within-high}
-use Rattle.number.specs.declared.Number.the-variants.{Value}
-use Rattle.number.specs.Number.{number-at, encode, encode-all}
+use Rattle.numeral.specs.declared.Number.the-variants.{Value}
+use Rattle.numeral.specs.Number.{number-at, encode, encode-all}
 use Rattle.codec.specs.Judging.{field-fault, fault, objection, wanted, Before, place}
-use Rattle.number.proofs.NumberLaws.{encode-all-append, encode-all-last}
-use Rattle.number.proofs.Runs.{Reads, reads-join, reads-split, reads-number}
+use Rattle.numeral.proofs.NumberLaws.{encode-all-append, encode-all-last}
+use Rattle.numeral.proofs.Runs.{Reads, reads-join, reads-split, reads-number}
 
 -- What holds at each place of a list, and of one more number, holds at each place of the longer list.
 each-next : (P : List ℕ → ℕ → Type 0) (vs : List ℕ) (v : ℕ) → ((k : ℕ) → k < length vs → P (take k vs) (getD vs k 0)) → P vs v

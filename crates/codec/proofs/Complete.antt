@@ -27,11 +27,11 @@ use Rattle.table.proofs.LegalLaws.{Parts, parts-of-legal}
 use Rattle.reader.specs.declared.Cursor.{Cursor}
 use Rattle.reader.specs.declared.RowsRead.{RowsRead}
 use Rattle.reader.specs.declared.ThreadsRead.{ThreadsRead}
-use Rattle.number.specs.Number.{number-at, encode, encode-all}
+use Rattle.numeral.specs.Number.{number-at, encode, encode-all}
 use Rattle.writer.specs.Format.{row-numbers, thread-numbers, numbers, bytes}
 use Rattle.reader.specs.Reader.{good, number-from, judged, ranged, row-from, rows-from, free, field-from, fields-from, thread-of, threads-from, accepted, ended, after-rows, version-from, domains-from, count-from, reading}
-use Rattle.number.proofs.NumberLaws.{encode-all-append, encode-all-take}
-use Rattle.number.proofs.Runs.{Reads, reads-number, reads-split, reads-whole}
+use Rattle.numeral.proofs.NumberLaws.{encode-all-append, encode-all-take}
+use Rattle.numeral.proofs.Runs.{Reads, reads-number, reads-split, reads-whole}
 use Rattle.codec.proofs.FormatLaws.{rows-more, threads-more, taken-same}
 
 -- A cursor with no refusal, at a place.

@@ -12,9 +12,9 @@ use Rattle.table.specs.Threads.{none, fields}
 use Rattle.table.specs.Legal.{taken}
 use Rattle.table.specs.declared.Thread.{Thread}
 use Rattle.reader.specs.Reader.{thread-of}
-use Rattle.number.specs.Number.{encode, encode-all}
+use Rattle.numeral.specs.Number.{encode, encode-all}
 use Rattle.writer.specs.Format.{row-numbers, thread-numbers}
-use Rattle.number.proofs.NumberLaws.{encode-all-append, encode-all-last}
+use Rattle.numeral.proofs.NumberLaws.{encode-all-append, encode-all-last}
 
 pub rows-more : (rows : List ℕ) (i : ℕ) → encode-all (row-numbers rows (suc i)) ≡ encode-all (row-numbers rows i) ++ encode (getD rows i 0)
 unfolding row-numbers listed

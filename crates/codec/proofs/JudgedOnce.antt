@@ -11,9 +11,9 @@ use borrow.Author.Tests.{ltb-true, ltb-false, lt-ltb, le-ltb}
 use Rattle.basis.specs.Tests.{pick}
 use Rattle.basis.specs.Told.{Told, answered}
 use Rattle.basis.proofs.TestLaws.{by-test, refuted}
-use Rattle.number.specs.declared.Number.{Number}
-use Rattle.number.specs.declared.Number.the-variants.{Value, Refused}
-use Rattle.number.specs.Number.{number-at}
+use Rattle.numeral.specs.declared.Number.{Number}
+use Rattle.numeral.specs.declared.Number.the-variants.{Value, Refused}
+use Rattle.numeral.specs.Number.{number-at}
 use Rattle.codec.specs.Judging.{objection, wanted, Before, place, Judgment, no-number, objected, extra, all-read}
 use Rattle.codec.proofs.BeforeLaws.{before-number}
 

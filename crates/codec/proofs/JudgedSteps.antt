@@ -13,16 +13,16 @@ use Rattle.basis.specs.Told.{Told, answered, refused}
 use Rattle.basis.proofs.TestLaws.{by-test}
 use Rattle.table.specs.declared.Range.{Range}
 use Rattle.table.specs.declared.Thread.{Thread}
-use Rattle.number.specs.declared.Number.{Number}
-use Rattle.number.specs.declared.Number.the-variants.{Value, Refused}
+use Rattle.numeral.specs.declared.Number.{Number}
+use Rattle.numeral.specs.declared.Number.the-variants.{Value, Refused}
 use Rattle.reader.specs.declared.Cursor.{Cursor}
 use Rattle.reader.specs.declared.RowsRead.{RowsRead}
 use Rattle.reader.specs.declared.ThreadsRead.{ThreadsRead}
-use Rattle.number.specs.Number.{number-at, encode, encode-all}
+use Rattle.numeral.specs.Number.{number-at, encode, encode-all}
 use Rattle.reader.specs.Reader.{took, number-from, judged, ranged, row-from, rows-from, field-from, fields-from, ended, after-rows}
 use Rattle.codec.specs.Judging.{fault, row-gap, objection, wanted, Before, place, Judgment, no-number, objected, extra, all-read}
-use Rattle.number.proofs.NumberLaws.{Bytes, Told-why, number-why, encode-all-last}
-use Rattle.number.proofs.Runs.{number-reads}
+use Rattle.numeral.proofs.NumberLaws.{Bytes, Told-why, number-why, encode-all-last}
+use Rattle.numeral.proofs.Runs.{number-reads}
 use Rattle.codec.proofs.BeforeLaws.{before-next}
 
 -- The reader has read vs, and stands after them.

@@ -18,7 +18,7 @@ use Rattle.table.proofs.LegalLaws.{legal-sound, legal-complete}
 use Rattle.writer.specs.Format.{bytes}
 use Rattle.reader.specs.Reader.{accepted, reading}
 use Rattle.writer.specs.Writer.{overlaid, writing, written}
-use Rattle.number.proofs.NumberLaws.{Bytes}
+use Rattle.numeral.proofs.NumberLaws.{Bytes}
 use Rattle.codec.proofs.Sound.{sound}
 use Rattle.codec.proofs.Complete.{complete}
 

@@ -26,17 +26,17 @@ use Rattle.table.specs.declared.Table.{Table}
 use Rattle.table.specs.declared.Thread.{Thread}
 use Rattle.table.proofs.RangeLaws.{within-low, within-high, field-range-by}
 use Rattle.table.proofs.LegalLaws.{Parts, legal-of-parts}
-use Rattle.number.specs.declared.Number.{Number}
-use Rattle.number.specs.declared.Number.the-variants.{Value, Refused}
+use Rattle.numeral.specs.declared.Number.{Number}
+use Rattle.numeral.specs.declared.Number.the-variants.{Value, Refused}
 use Rattle.reader.specs.declared.Cursor.{Cursor}
 use Rattle.reader.specs.declared.RowsRead.{RowsRead}
 use Rattle.reader.specs.declared.FieldsRead.{FieldsRead}
 use Rattle.reader.specs.declared.ThreadsRead.{ThreadsRead}
-use Rattle.number.specs.Number.{number, number-at, encode, encode-all}
+use Rattle.numeral.specs.Number.{number, number-at, encode, encode-all}
 use Rattle.writer.specs.Format.{row-numbers, thread-numbers, numbers, bytes}
 use Rattle.reader.specs.Reader.{good, took, number-from, judged, ranged, row-from, rows-from, free, field-from, fields-from, thread-of, threads-from, Read, accepted, refused-at, whole-or-gap, ended, after-rows, version-from, domains-from, count-from, reading}
-use Rattle.number.proofs.NumberLaws.{Bytes, Told-why, number-why, encode-all-append, encode-all-last}
-use Rattle.number.proofs.Runs.{Reads, number-reads, reads-nil, reads-join}
+use Rattle.numeral.proofs.NumberLaws.{Bytes, Told-why, number-why, encode-all-append, encode-all-last}
+use Rattle.numeral.proofs.Runs.{Reads, number-reads, reads-nil, reads-join}
 use Rattle.reader.proofs.ReaderLaws.{ranged-le, length-fields}
 use Rattle.codec.proofs.FormatLaws.{rows-more, threads-more, rows-set, threads-set, taken-same, fields-back}
 

@@ -11,8 +11,8 @@ use Rattle.basis.specs.Told.{Told, answered, refused}
 use Rattle.flow.specs.Flow.{row-ok}
 use Rattle.flow.specs.Gap.{first-gap, gap-told}
 use Rattle.table.specs.Ranges.{within, domain-counts, thread-counts, field-range}
-use Rattle.number.specs.Number.{number-at, encode-all}
-use Rattle.number.specs.declared.Number.the-variants.{Value, Refused}
+use Rattle.numeral.specs.Number.{number-at, encode-all}
+use Rattle.numeral.specs.declared.Number.the-variants.{Value, Refused}
 
 -- Why v is refused as the next field after the fields fs of the threads so far, in a table of d domains (0: it passes):
 -- thread i is being read, k is its next field, and field 1 is the priority.

@@ -12,8 +12,8 @@ use Rattle.flow.specs.Gap.{broken, gap-at, gap-by-c, gap-by-b, first-gap, gap-t
 use Rattle.table.specs.Ranges.{within, field-ranges, field-range}
 use Rattle.table.specs.Legal.{row-legal, field-ok, thread-ok, field-zero, thread-zero, taken, place-legal, legal}
 use Rattle.table.specs.Mark.{seen-by, hidden-below, marked}
-use Rattle.number.specs.Number.{third, second, number, number-at, encode, encode-all}
-use Rattle.number.specs.Number.{told as number-told}
+use Rattle.numeral.specs.Number.{third, second, number, number-at, encode, encode-all}
+use Rattle.numeral.specs.Number.{told as number-told}
 use Rattle.writer.specs.Format.{row-numbers, thread-numbers, numbers, bytes}
 use Rattle.reader.specs.Reader.{number-from, judged, ranged, row-from, rows-from, free, field-from, fields-from, threads-from, ended, after-rows, version-from, domains-from, count-from, reading}
 use Rattle.known.specs.Example.{example, example-bytes, written-out}

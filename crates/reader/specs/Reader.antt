@@ -15,8 +15,8 @@ use Rattle.table.specs.Legal.{taken}
 use Rattle.table.specs.declared.Range.{Range}
 use Rattle.table.specs.declared.Table.{Table}
 use Rattle.table.specs.declared.Thread.{Thread}
-use Rattle.number.specs.declared.Number.{Number}
-use Rattle.number.specs.declared.Number.the-variants.{Value, Refused}
+use Rattle.numeral.specs.declared.Number.{Number}
+use Rattle.numeral.specs.declared.Number.the-variants.{Value, Refused}
 use Rattle.reader.specs.declared.Cursor.{Cursor}
 use Rattle.reader.specs.declared.RowsRead.{RowsRead}
 use Rattle.reader.specs.declared.FieldsRead.{FieldsRead}
@@ -24,7 +24,7 @@ use Rattle.reader.specs.declared.ThreadsRead.{ThreadsRead}
 use Rattle.reader.specs.declared.Verdict.{Verdict}
 use Rattle.reader.specs.declared.Verdict.the-variants.{Accepted, Refused as No, Intransitive}
 use Rattle.reader.specs.declared.Reading.{Reading}
-use Rattle.number.specs.Number.{number-at}
+use Rattle.numeral.specs.Number.{number-at}
 
 -- A number v was read from start up to next.
 abbrev pub good : ℕ → ℕ → ℕ → Cursor

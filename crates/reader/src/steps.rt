@@ -2,8 +2,8 @@
 ghost use mathlib.Core.Path.{_≡_};
 ghost use Rattle.reader.specs.Reader.{bad, number-from, judged, ranged};
 use super::Cursor;
-use number::Number;
-use number::read_number;
+use numeral::Number;
+use numeral::read_number;
 use table::Range;
 use table::in_range;
 

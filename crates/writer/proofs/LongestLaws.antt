@@ -20,9 +20,9 @@ use Rattle.table.specs.Legal.{Legal, Legal-thread, legal, row-legal, field-ok, 
 use Rattle.table.specs.declared.Table.{Table}
 use Rattle.table.specs.declared.Thread.{Thread}
 use Rattle.table.proofs.LegalLaws.{legal-sound}
-use Rattle.number.specs.Number.{encode, encode-all}
+use Rattle.numeral.specs.Number.{encode, encode-all}
 use Rattle.writer.specs.Format.{row-numbers, thread-numbers, numbers, bytes}
-use Rattle.number.proofs.NumberLaws.{encode-one, encode-two, encode-three}
+use Rattle.numeral.proofs.NumberLaws.{encode-one, encode-two, encode-three}
 use Rattle.writer.proofs.WriterLaws.{rows-length, threads-length, bytes-length}
 
 -- One byte below 128, at most two below 16,384, at most three.

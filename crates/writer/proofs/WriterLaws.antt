@@ -19,11 +19,11 @@ use Rattle.table.specs.declared.Table.{Table}
 use Rattle.table.specs.declared.Thread.{Thread}
 use Rattle.writer.specs.declared.Writing.{Writing}
 use Rattle.writer.specs.declared.Writing.the-variants.{Written, NotLegal, NoRoom}
-use Rattle.number.specs.Number.{encode, encode-all}
+use Rattle.numeral.specs.Number.{encode, encode-all}
 use Rattle.writer.specs.Format.{row-numbers, thread-numbers, numbers, bytes}
 use Rattle.writer.specs.Buffer.{Room, Put}
 use Rattle.writer.specs.Writer.{overlaid, writing, written, told}
-use Rattle.number.proofs.NumberLaws.{encode-one, encode-all-append, encode-all-last}
+use Rattle.numeral.proofs.NumberLaws.{encode-one, encode-all-append, encode-all-last}
 
 -- Two runs put one after the other are one.
 sets-join : (xs ys l : List ℕ) (i : ℕ) → sets (sets l i xs) (i + length xs) ys ≡ sets l i (xs ++ ys)

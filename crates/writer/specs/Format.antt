@@ -6,7 +6,7 @@ use Rattle.basis.specs.Search.{listed}
 use Rattle.table.specs.Threads.{none, fields}
 use Rattle.table.specs.declared.Table.{Table}
 use Rattle.table.specs.declared.Thread.{Thread}
-use Rattle.number.specs.Number.{encode-all}
+use Rattle.numeral.specs.Number.{encode-all}
 
 -- One row for each of n domains.
 unfoldable pub row-numbers : List ℕ → ℕ → List ℕ

@@ -2,7 +2,7 @@
 ghost use mathlib.Core.Path.{_≡_};
 ghost use Prim.Native.Nat.{_≤_};
 ghost use Rattle.table.specs.Threads.{fields as the-fields};
-ghost use Rattle.number.specs.Number.{encode, encode-all};
+ghost use Rattle.numeral.specs.Number.{encode, encode-all};
 ghost use Rattle.writer.specs.Format.{row-numbers, thread-numbers, bytes};
 ghost use Rattle.writer.specs.Buffer.{Room, Put};
 use table::Table;

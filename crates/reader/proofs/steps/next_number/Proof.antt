@@ -8,7 +8,7 @@ use Rattle.reader.proofs.steps.next_number.Statement.{statement}
 use Rattle.reader.proofs.steps.next_number.Tie as tie
 use Rattle.reader.proofs.steps.next_number.Reads as reads
 use Rattle.reader.proofs.steps.next_number.Lts as lts
-use Rattle.number.proofs.read_number.Reads as read-number-reads
+use Rattle.numeral.proofs.read_number.Reads as read-number-reads
 use Rattle.reader.proofs.steps.refuse.Reads as refuse-reads
 
 refuse-requires : tie.Need-refuse-requires

@@ -3,7 +3,7 @@ use mathlib.Core.Path.{ap}
 use native.Mathlib.Omega.{arith}
 use native.Mathlib.Numerals.{add-one}
 use lib.ListN.{length, length-set}
-use Rattle.number.proofs.NumberLaws.{encode-one, encode-two, encode-three, encode-some}
+use Rattle.numeral.proofs.NumberLaws.{encode-one, encode-two, encode-three, encode-some}
 use borrow.Author.Needs.{needs}
 use Rattle.writer.proofs.put.write_number.Statement.{statement}
 use Rattle.writer.proofs.put.write_number.Tie as tie

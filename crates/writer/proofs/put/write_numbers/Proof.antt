@@ -3,7 +3,7 @@ use Prim.Native.Nat.{_≤_, _-_}
 use native.Mathlib.Omega.{arith}
 use lib.ListN.{take}
 use lib.Seq.{take-all}
-use Rattle.number.specs.Number.{encode-all}
+use Rattle.numeral.specs.Number.{encode-all}
 use Rattle.writer.specs.Buffer.{Put}
 use Rattle.writer.proofs.WriterLaws.{put-none, put-join, put-room, put-length, numbers-next, numbers-room}
 use borrow.Author.Needs.{needs}

@@ -2,7 +2,7 @@
 use Prim.Native.Nat.{_≤_, _-_}
 use mathlib.Core.Path.{_≡_}
 use native.Mathlib.Omega.{arith}
-use Rattle.number.specs.Number.{encode-all}
+use Rattle.numeral.specs.Number.{encode-all}
 use Rattle.writer.specs.Format.{thread-numbers}
 use Rattle.writer.specs.Buffer.{Put}
 use Rattle.writer.proofs.WriterLaws.{put-none, put-join, put-room, put-length, threads-next, threads-room}

@@ -1,6 +1,6 @@
 -- The size of a number is that of its bytes, one case a length.
 use native.Mathlib.Omega.{arith}
-use Rattle.number.proofs.NumberLaws.{encode-one, encode-two, encode-three}
+use Rattle.numeral.proofs.NumberLaws.{encode-one, encode-two, encode-three}
 use Rattle.writer.proofs.size.number_size.Statement.{statement}
 use Rattle.writer.proofs.size.number_size.Tie as tie
 

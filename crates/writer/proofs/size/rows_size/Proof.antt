@@ -4,7 +4,7 @@ use mathlib.Core.Path.{_≡_, refl}
 use native.Mathlib.Omega.{arith}
 use lib.ListN.{length}
 use Rattle.basis.specs.Search.{listed}
-use Rattle.number.specs.Number.{encode-all}
+use Rattle.numeral.specs.Number.{encode-all}
 use Rattle.writer.specs.Format.{row-numbers}
 use Rattle.writer.proofs.WriterLaws.{rows-length}
 use borrow.Author.Needs.{needs}

@@ -4,7 +4,7 @@ use mathlib.Core.Path.{_≡_, refl, ap}
 use native.Mathlib.Omega.{arith}
 use lib.ListN.{length, take}
 use Rattle.table.specs.Threads.{fields}
-use Rattle.number.specs.Number.{encode-all}
+use Rattle.numeral.specs.Number.{encode-all}
 use Rattle.writer.proofs.WriterLaws.{numbers-length}
 use borrow.Author.Needs.{needs}
 use Rattle.writer.proofs.size.thread_size.Statement.{statement}

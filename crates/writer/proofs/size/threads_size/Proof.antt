@@ -3,7 +3,7 @@ use Prim.Native.Nat.{_*_, _≤_, _-_}
 use mathlib.Core.Path.{_≡_, refl}
 use native.Mathlib.Omega.{arith}
 use lib.ListN.{length}
-use Rattle.number.specs.Number.{encode-all}
+use Rattle.numeral.specs.Number.{encode-all}
 use Rattle.writer.specs.Format.{thread-numbers}
 use Rattle.writer.proofs.WriterLaws.{threads-length}
 use borrow.Author.Needs.{needs}

@@ -8,9 +8,9 @@ use lib.ListN.{length, getD, take, drop}
 use lib.Seq.{drop-append-seam, take-append-seam, getD-drop, take-suc}
 use lib.Dec.{eqb, ltb, leb}
 use borrow.Author.Tests.{le-leb, lt-leb, lt-ltb, le-ltb, eq-eqb, ne-eqb, ltb-true, ltb-false, leb-false, eqb-false}
-use Rattle.number.specs.declared.Number.{Number}
-use Rattle.number.specs.declared.Number.the-variants.{Value, Refused}
-use Rattle.number.specs.Number.{third, second, number, number-at, encode, encode-all}
+use Rattle.numeral.specs.declared.Number.{Number}
+use Rattle.numeral.specs.declared.Number.the-variants.{Value, Refused}
+use Rattle.numeral.specs.Number.{third, second, number, number-at, encode, encode-all}
 use mathlib.Core.Logic.{_≢_}
 use Rattle.basis.specs.Tests.{pick}
 use Rattle.basis.proofs.TestLaws.{by-test, either}

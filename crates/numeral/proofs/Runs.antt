@@ -6,10 +6,10 @@ use native.Mathlib.Omega.{arith}
 use native.Mathlib.Nat.{add-zero}
 use lib.ListN.{length, getD, take, drop, length-append}
 use lib.Seq.{drop-append-seam, drop-drop, drop-length}
-use Rattle.number.specs.declared.Number.{Number}
-use Rattle.number.specs.declared.Number.the-variants.{Value, Refused}
-use Rattle.number.specs.Number.{number-at, number, encode}
-use Rattle.number.proofs.NumberLaws.{Bytes, Stands, number-at-back, number-encode}
+use Rattle.numeral.specs.declared.Number.{Number}
+use Rattle.numeral.specs.declared.Number.the-variants.{Value, Refused}
+use Rattle.numeral.specs.Number.{number-at, number, encode}
+use Rattle.numeral.proofs.NumberLaws.{Bytes, Stands, number-at-back, number-encode}
 
 pub record Reads (s : List ℕ) (p q : ℕ) (xs : List ℕ) : Type 0 where
   pub stands : drop p s ≡ xs ++ drop q s

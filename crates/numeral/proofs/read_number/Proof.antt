@@ -1,15 +1,15 @@
-use Rattle.number.specs.Number.{number, number-at}
+use Rattle.numeral.specs.Number.{number, number-at}
 use Rattle.basis.specs.Tests.{pick}
 use Rattle.basis.proofs.ListLaws.{drop-some}
 use lib.ListN.{drop-of-length-le}
 use borrow.Author.Tests.{le-leb, lt-leb, lt-ltb, le-ltb, eq-eqb, ne-eqb}
 use borrow.Author.Needs.{needs}
-use Rattle.number.proofs.read_number.Statement.{statement}
-use Rattle.number.proofs.read_number.Tie as tie
-use Rattle.number.proofs.read_number.Reads as reads
-use Rattle.number.proofs.read_number.Lts as lts
-use Rattle.number.proofs.second_byte.Reads as second-byte-reads
-use Rattle.number.proofs.wide.Reads as wide-reads
+use Rattle.numeral.proofs.read_number.Statement.{statement}
+use Rattle.numeral.proofs.read_number.Tie as tie
+use Rattle.numeral.proofs.read_number.Reads as reads
+use Rattle.numeral.proofs.read_number.Lts as lts
+use Rattle.numeral.proofs.second_byte.Reads as second-byte-reads
+use Rattle.numeral.proofs.wide.Reads as wide-reads
 
 returns : tie.Need-returns
 unfolding number-at number pick

@@ -1,15 +1,15 @@
-use Rattle.number.specs.Number.{second}
+use Rattle.numeral.specs.Number.{second}
 use Rattle.basis.specs.Tests.{pick}
 use Rattle.basis.proofs.ListLaws.{drop-some}
 use lib.ListN.{drop-of-length-le}
 use borrow.Author.Tests.{le-leb, lt-leb, lt-ltb, le-ltb, eq-eqb, ne-eqb}
 use borrow.Author.Needs.{needs}
-use Rattle.number.proofs.second_byte.Statement.{statement}
-use Rattle.number.proofs.second_byte.Tie as tie
-use Rattle.number.proofs.second_byte.Reads as reads
-use Rattle.number.proofs.second_byte.Lts as lts
-use Rattle.number.proofs.third_byte.Reads as third-byte-reads
-use Rattle.number.proofs.wide.Reads as wide-reads
+use Rattle.numeral.proofs.second_byte.Statement.{statement}
+use Rattle.numeral.proofs.second_byte.Tie as tie
+use Rattle.numeral.proofs.second_byte.Reads as reads
+use Rattle.numeral.proofs.second_byte.Lts as lts
+use Rattle.numeral.proofs.third_byte.Reads as third-byte-reads
+use Rattle.numeral.proofs.wide.Reads as wide-reads
 
 returns : tie.Need-returns
 unfolding second pick

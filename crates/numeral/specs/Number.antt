@@ -5,8 +5,8 @@ use lib.ListN.{drop}
 use lib.Dec.{eqb, ltb, leb}
 use Rattle.basis.specs.Tests.{pick}
 use Rattle.basis.specs.Told.{Told, answered, refused}
-use Rattle.number.specs.declared.Number.{Number}
-use Rattle.number.specs.declared.Number.the-variants.{Value, Refused}
+use Rattle.numeral.specs.declared.Number.{Number}
+use Rattle.numeral.specs.declared.Number.the-variants.{Value, Refused}
 
 -- The third byte, at a place, where the first two give v: missing 1, its top bit set 3, a last byte of 0 2, above 65,535 3.
 unfoldable pub third : ℕ → ℕ → List ℕ → Number

@@ -2,7 +2,7 @@
 ghost use mathlib.Core.Path.{_≡_};
 ghost use Prim.Native.Nat.{_<_};
 ghost use lib.ListN.{drop};
-ghost use Rattle.number.specs.Number.{third, second, number-at};
+ghost use Rattle.numeral.specs.Number.{third, second, number-at};
 
 // A number and the place after it, or the refusal.
 pub enum Number {

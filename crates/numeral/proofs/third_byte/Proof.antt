@@ -1,14 +1,14 @@
 use Rattle.basis.proofs.ListLaws.{drop-some}
 use Rattle.basis.specs.Tests.{pick}
-use Rattle.number.specs.Number.{third}
+use Rattle.numeral.specs.Number.{third}
 use lib.ListN.{drop-of-length-le}
 use borrow.Author.Tests.{le-leb, lt-leb, lt-ltb, le-ltb, eq-eqb, ne-eqb}
 use borrow.Author.Needs.{needs}
-use Rattle.number.proofs.third_byte.Statement.{statement}
-use Rattle.number.proofs.third_byte.Tie as tie
-use Rattle.number.proofs.third_byte.Reads as reads
-use Rattle.number.proofs.third_byte.Lts as lts
-use Rattle.number.proofs.wide.Reads as wide-reads
+use Rattle.numeral.proofs.third_byte.Statement.{statement}
+use Rattle.numeral.proofs.third_byte.Tie as tie
+use Rattle.numeral.proofs.third_byte.Reads as reads
+use Rattle.numeral.proofs.third_byte.Lts as lts
+use Rattle.numeral.proofs.wide.Reads as wide-reads
 
 returns : tie.Need-returns
 unfolding third pick
