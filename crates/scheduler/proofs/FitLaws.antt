@@ -12,13 +12,14 @@ use Rattle.basis.specs.Tests.{pick, and, every}
 use Rattle.basis.proofs.TestLaws.{by-test, both-ways, and-both, and-of, every-at, every-all}
 use Rattle.basis.proofs.ListLaws.{all-alike}
 use Rattle.table.specs.Threads.{thread}
-use Rattle.table.specs.Mark.{marks-of}
+use Rattle.table.specs.Legal.{legal, Sized, Legal}
+use Rattle.table.proofs.LegalLaws.{legal-sound}
 use Rattle.table.specs.declared.Table.{Table}
 use Rattle.table.specs.declared.Thread.{Thread}
 use Rattle.scheduler.specs.declared.Progress.{Progress}
 use Rattle.scheduler.specs.declared.State.{State}
 use Rattle.scheduler.specs.State.{no-progress, progress, fresh, last-clock, place-fits, fits, Place-fits, Fits}
-use Rattle.scheduler.specs.Given.{Each, Below}
+use Rattle.scheduler.specs.Given.{Usable, Each, Below}
 use Rattle.scheduler.specs.Order.{order}
 use Rattle.scheduler.specs.Step.{at-phase, released, release, walk, tick, ticked, advance, step}
 use Rattle.scheduler.proofs.WalkLaws.{Kept, walk-each, walk-clock, walk-length, release-each, release-clock, release-length, released-ran}
@@ -124,3 +125,9 @@ module _ (t : Table) (m : List Bool) (is bs : List ℕ) (s : State) where
         long = rw (walk-length, release-length) (f .long);
         places = λ i. subst (λ (k : ℕ). Place-fits t k i (progress (walk m bs is (release t (t .count) s) .state) i)) (sym advance-clock) (w .at i);
       }
+
+-- What the code needs of a table, from the test that it is legal.
+pub usable : (t : Table) → Sized t → legal t ≡ true → Usable t
+usable t z e =
+    let g : Legal t = legal-sound t z e in
+    record { few = g .count-high; period = λ i l. g .threads i l .period-low }

@@ -1,3 +1,12 @@
 pub mod WalkLaws
 pub mod OrderLaws
 pub mod FitLaws
+pub mod StepLaws
+pub mod RefusalLaws
+pub mod HeardLaws
+pub mod PaidLaws
+pub mod UniqueLaws
+pub mod IsolatedAlike
+pub mod IsolatedWalk
+pub mod Isolation
+pub mod IsolatedKnown

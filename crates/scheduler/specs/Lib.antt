@@ -3,4 +3,8 @@ pub mod Order
 pub mod Given
 pub mod Step
 pub mod Taken
+pub mod Numbered
+pub mod Heard
+pub mod Paid
 pub mod Shown
+pub mod Isolated

@@ -1,3 +1,9 @@
+use Rattle.scheduler.specs.Shown.{showing}
+use Rattle.table.proofs.LegalLaws.{legal-small}
+use Rattle.basis.specs.Tests.{pick}
+use borrow.Author.Tests.{not-true, not-false, lt-ltb, le-ltb}
+use mathlib.Core.Bool.{true}
+use mathlib.Core.Path.{_≡_, sym, _∙_}
 use borrow.Author.Needs.{needs}
 use Rattle.scheduler.proofs.shown.Statement.{statement}
 use Rattle.scheduler.proofs.shown.Tie as tie
@@ -6,25 +12,23 @@ use Rattle.scheduler.proofs.shown.Lts as lts
 use Rattle.scheduler.proofs.sight.view.Reads as view-reads
 use Rattle.table.proofs.legal.Reads as legal-reads
 
--- src/lib.rt:155:9
 legal-requires : tie.Need-legal-requires
 legal-requires c κs = search needs
 
--- src/lib.rt:156:9
 returns : tie.Need-returns
-returns c = search needs
+unfolding showing pick
+returns c = rw (sym (c .before .legal .ensures) ∙ not-true _ (c .if1 .taken))
 
--- src/lib.rt:159:9
 returns-2 : tie.Need-returns-2
-returns-2 c = search needs
+unfolding showing pick
+returns-2 c = rw (sym (c .before .before .before .legal .ensures) ∙ not-false _ (c .before .before .if1 .left), le-ltb _ _ (c .if2 .taken))
 
--- src/lib.rt:161:5
 view-requires : tie.Need-view-requires
-view-requires c κs = search needs
+view-requires c κs = legal-small _ (sym (c .before .before .before .legal .ensures) ∙ not-false _ (c .before .before .if1 .left)) .1
 
--- src/lib.rt:152:1
 returns-3 : tie.Need-returns-3
-returns-3 c = search needs
+unfolding showing pick
+returns-3 c = rw (sym (c .before .before .before .before .legal .ensures) ∙ not-false _ (c .before .before .before .if1 .left), lt-ltb _ _ (c .before .if2 .left)) (c .view .ensures)
 
 pub shown-spec : {M : Type 1} → statement M
 shown-spec = tie.close (tie.spec legal-requires returns returns-2 view-requires returns-3)

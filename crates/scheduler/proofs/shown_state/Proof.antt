@@ -1,3 +1,8 @@
+use Rattle.scheduler.specs.Shown.{told-state, showing-state, threads-shown}
+use Rattle.table.proofs.LegalLaws.{legal-small}
+use Rattle.basis.specs.Tests.{pick}
+use borrow.Author.Tests.{not-true, not-false, lt-ltb, le-ltb}
+use mathlib.Core.Path.{_≡_, sym, _∙_}
 use borrow.Author.Needs.{needs}
 use Rattle.scheduler.proofs.shown_state.Statement.{statement}
 use Rattle.scheduler.proofs.shown_state.Tie as tie
@@ -8,45 +13,39 @@ use Rattle.scheduler.proofs.fit.fits.Reads as fits-reads
 use Rattle.scheduler.proofs.sight.seen_threads.Reads as seen-threads-reads
 use Rattle.table.proofs.legal.Reads as legal-reads
 
--- src/lib.rt:178:9
 legal-requires : tie.Need-legal-requires
 legal-requires c κs = search needs
 
--- src/lib.rt:179:9
 blind-requires : tie.Need-blind-requires
 blind-requires c κs = search needs
 
--- src/lib.rt:179:9
 returns : tie.Need-returns
-returns c = search needs
+unfolding showing-state threads-shown pick
+returns c = let e = sym (c .before .before .legal .ensures) ∙ not-true _ (c .before .if1 .taken) in (rw (c .blind .ensures .0, e), rw e (c .blind .ensures .1))
 
--- src/lib.rt:181:9
 fits-requires : tie.Need-fits-requires
 fits-requires c κs = search needs
 
--- src/lib.rt:182:9
 blind-requires-2 : tie.Need-blind-requires-2
 blind-requires-2 c κs = search needs
 
--- src/lib.rt:182:9
 returns-2 : tie.Need-returns-2
-returns-2 c = search needs
+unfolding showing-state threads-shown pick
+returns-2 c = let l = sym (c .before .before .before .before .legal .ensures) ∙ not-false _ (c .before .before .before .if1 .left) in let e = sym (c .before .before .fits2 .ensures) ∙ not-true _ (c .before .if2 .taken) in (rw (c .blind2 .ensures .0, l, e), rw (l, e) (c .blind2 .ensures .1))
 
--- src/lib.rt:185:9
 blind-requires-3 : tie.Need-blind-requires-3
 blind-requires-3 c κs = search needs
 
--- src/lib.rt:185:9
 returns-3 : tie.Need-returns-3
-returns-3 c = search needs
+unfolding showing-state threads-shown pick
+returns-3 c = let l = sym (c .before .before .before .before .before .before .legal .ensures) ∙ not-false _ (c .before .before .before .before .before .if1 .left) in let f = sym (c .before .before .before .before .fits2 .ensures) ∙ not-false _ (c .before .before .before .if2 .left) in let e = le-ltb _ _ (c .before .if3 .taken) in (rw (c .blind3 .ensures .0, l, f, e), rw (l, f, e) (c .blind3 .ensures .1))
 
--- src/lib.rt:189:18
 seen-threads-requires : tie.Need-seen-threads-requires
-seen-threads-requires c κs = search needs
+seen-threads-requires c κs = legal-small _ (sym (c .before .before .before .before .before .legal .ensures) ∙ not-false _ (c .before .before .before .before .if1 .left)) .1
 
--- src/lib.rt:175:1
 returns-4 : tie.Need-returns-4
-returns-4 c = search needs
+unfolding showing-state threads-shown pick
+returns-4 c = let l = sym (c .before .before .before .before .before .before .legal .ensures) ∙ not-false _ (c .before .before .before .before .before .if1 .left) in let f = sym (c .before .before .before .before .fits2 .ensures) ∙ not-false _ (c .before .before .before .if2 .left) in let e = lt-ltb _ _ (c .before .if3 .left) in (rw (l, f, e), rw (l, f, e) (c .seen-threads .ensures))
 
 pub shown-state-spec : {M : Type 1} → statement M
 shown-state-spec =

@@ -1,3 +1,20 @@
+-- `scheduler::step` meets its contract: the refusals in their order, then the prepared step.
+use Prim.Native.Nat.{_≤_, _<_}
+use mathlib.Core.Path.{_≡_, refl, sym, _∙_, ap}
+use mathlib.Core.Bool.{true, false}
+use native.Mathlib.Omega.{arith}
+use borrow.Author.Tests.{not-true, not-false, eq-eqb, ne-eqb, lt-ltb, le-ltb}
+use lib.ListN.{length}
+use Rattle.basis.specs.Tests.{pick}
+use Rattle.basis.proofs.ListLaws.{long-of}
+use Rattle.table.specs.Legal.{legal, Sized}
+use Rattle.scheduler.specs.State.{fits, Fits}
+use Rattle.scheduler.specs.Given.{Usable, Below}
+use Rattle.scheduler.specs.Order.{order}
+use Rattle.scheduler.specs.Step.{step}
+use Rattle.scheduler.specs.Taken.{taken, rested}
+use Rattle.scheduler.proofs.OrderLaws.{order-below}
+use Rattle.scheduler.proofs.FitLaws.{fits-sound, usable}
 use borrow.Author.Needs.{needs}
 use Rattle.scheduler.proofs.step.Statement.{statement}
 use Rattle.scheduler.proofs.step.Tie as tie
@@ -10,73 +27,90 @@ use Rattle.scheduler.proofs.walk.advance.Reads as advance-reads
 use Rattle.scheduler.proofs.walk.is_unrested.Reads as is-unrested-reads
 use Rattle.table.proofs.legal.Reads as legal-reads
 
--- src/lib.rt:126:9
+-- The table's and the state's sizes are their types'.
+sized : (s : tie.Start) → Sized (s .args .t)
+sized s = record { rows = search (needs, long-of); threads = search (needs, long-of) }
+
+long : (s : tie.Start) → length (s .args .s .threads) ≡ 32
+long s = search (needs, long-of)
+
+-- What each test told, once it was passed.
+lawful : (c : tie.Else1) → legal (c .before .before .before .args .t) ≡ true
+lawful c = sym (c .before .legal .ensures) ∙ not-false _ (c .if1 .left)
+
+ready : (c : tie.Else1) → Usable (c .before .before .before .args .t)
+ready c = usable _ (sized (c .before .before .before)) (lawful c)
+
+fitting : (c : tie.Else2) → fits (c .before .before .before .before .before .args .t) (c .before .before .before .before .before .args .s) ≡ true
+fitting c = sym (c .before .fits2 .ensures) ∙ not-false _ (c .if2 .left)
+
+-- The prepared step is the step.
+stepped : (c : tie.After-advance) → c .advance .result ≡ step (c .before .before .before .before .before .before .before .before .before .before .before .args .t) (c .before .before .before .before .before .before .before .before .before .before .before .args .bytes .now) (c .before .before .before .before .before .before .before .before .before .before .before .args .s)
+unfolding step
+stepped c = rw (← c .before .prepare .ensures .1, ← c .before .prepare .ensures .2) (c .advance .ensures)
+
 legal-requires : tie.Need-legal-requires
 legal-requires c κs = search needs
 
--- src/lib.rt:127:9
 refuse-requires : tie.Need-refuse-requires
 refuse-requires c κs = search needs
 
--- src/lib.rt:127:9
 returns : tie.Need-returns
-returns c = search needs
+unfolding taken pick
+returns c = rw (sym (c .before .before .legal .ensures) ∙ not-true _ (c .before .if1 .taken)) (c .refuse .ensures)
 
--- src/lib.rt:129:9
 fits-requires : tie.Need-fits-requires
 fits-requires c κs = search needs
 
--- src/lib.rt:130:9
 refuse-requires-2 : tie.Need-refuse-requires-2
 refuse-requires-2 c κs = search needs
 
--- src/lib.rt:130:9
 returns-2 : tie.Need-returns-2
-returns-2 c = search needs
+unfolding taken pick
+returns-2 c = rw (lawful (c .before .before .before), sym (c .before .before .fits2 .ensures) ∙ not-true _ (c .before .if2 .taken)) (c .refuse2 .ensures)
 
--- src/lib.rt:132:23
 cast-if3 : tie.Need-cast-if3
 cast-if3 c = search needs
 
--- src/lib.rt:133:9
 refuse-requires-3 : tie.Need-refuse-requires-3
 refuse-requires-3 c κs = search needs
 
--- src/lib.rt:133:9
 returns-3 : tie.Need-returns-3
-returns-3 c = search needs
+unfolding taken pick
+returns-3 c = rw (lawful (c .before .before .before .before .before), fitting (c .before .before .before), ne-eqb _ _ (c .before .if3 .taken)) (c .refuse3 .ensures)
 
--- src/lib.rt:136:9
 refuse-requires-4 : tie.Need-refuse-requires-4
 refuse-requires-4 c κs = search needs
 
--- src/lib.rt:136:9
 returns-4 : tie.Need-returns-4
-returns-4 c = search needs
+unfolding taken pick
+returns-4 c = rw (lawful (c .before .before .before .before .before .before .before), fitting (c .before .before .before .before .before), eq-eqb _ _ (c .before .before .before .if3 .left), le-ltb _ _ (c .before .if4 .taken)) (c .refuse4 .ensures)
 
--- src/lib.rt:138:9
 prepare-requires : tie.Need-prepare-requires
-prepare-requires c κs = search needs
+prepare-requires c κs = ready (c .before .before .before .before .before .before) .few
 
--- src/lib.rt:139:9
 advance-requires : tie.Need-advance-requires
-advance-requires c κs = search needs
+advance-requires c κs =
+    let s = c .before .before .before .before .before .before .before .before .before .before in
+    let u : Usable (s .args .t) = ready (c .before .before .before .before .before .before .before) in
+    let f : Fits (s .args .t) (s .args .s) = fits-sound _ _ (u .few) (long s) (fitting (c .before .before .before .before .before)) in
+    let e : length (s .args .bytes .now) ≡ s .args .t .count = c .before .before .before .if3 .left in
+    let l : Below (length (s .args .bytes .now)) (order (s .args .t)) = rw e (order-below (s .args .t)) in
+    (u, ((c .prepare .ensures .0, rw (c .prepare .ensures .1) l), (f, c .before .if4 .left, omega (arith, u .few, e))))
 
--- src/lib.rt:142:8
 is-unrested-requires : tie.Need-is-unrested-requires
-is-unrested-requires c κs = search needs
+is-unrested-requires c κs = ready (c .before .before .before .before .before .before .before .before .before)
 
--- src/lib.rt:143:9
 refuse-requires-5 : tie.Need-refuse-requires-5
 refuse-requires-5 c κs = search needs
 
--- src/lib.rt:143:9
 returns-5 : tie.Need-returns-5
-returns-5 c = search needs
+unfolding taken rested pick
+returns-5 c = rw (lawful (c .before .before .before .before .before .before .before .before .before .before .before .before), fitting (c .before .before .before .before .before .before .before .before .before .before), eq-eqb _ _ (c .before .before .before .before .before .before .before .before .if3 .left), lt-ltb _ _ (c .before .before .before .before .before .before .if4 .left), ← stepped (c .before .before .before .before), sym (c .before .before .is-unrested .ensures) ∙ c .before .if5 .taken) (c .refuse5 .ensures)
 
--- src/lib.rt:123:1
 returns-6 : tie.Need-returns-6
-returns-6 c = search needs
+unfolding taken rested pick
+returns-6 c = rw (lawful (c .before .before .before .before .before .before .before .before .before .before .before), fitting (c .before .before .before .before .before .before .before .before .before), eq-eqb _ _ (c .before .before .before .before .before .before .before .if3 .left), lt-ltb _ _ (c .before .before .before .before .before .if4 .left), ← stepped (c .before .before .before), sym (c .before .is-unrested .ensures) ∙ c .if5 .left)
 
 pub step-spec : {M : Type 1} → statement M
 step-spec =

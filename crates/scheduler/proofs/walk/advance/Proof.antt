@@ -1,3 +1,13 @@
+use Rattle.scheduler.specs.Step.{release}
+use Rattle.scheduler.proofs.FitLaws.{release-fits}
+use Rattle.scheduler.proofs.WalkLaws.{walk-clock, release-clock, release-each, released-ran}
+use Rattle.scheduler.specs.Step.{advance, ticked, released}
+use Rattle.scheduler.specs.Given.{Counted}
+use Rattle.scheduler.specs.State.{Fits}
+use native.Mathlib.Nat.{le-refl}
+use native.Mathlib.Omega.{arith}
+use mathlib.Core.Path.{_≡_, refl, sym}
+use Prim.Native.Nat.{_≤_, _<_}
 use borrow.Author.Needs.{needs}
 use Rattle.scheduler.proofs.walk.advance.Statement.{statement}
 use Rattle.scheduler.proofs.walk.advance.Tie as tie
@@ -7,21 +17,18 @@ use Rattle.scheduler.proofs.State.release.Reads as release-reads
 use Rattle.scheduler.proofs.State.tick.Reads as tick-reads
 use Rattle.scheduler.proofs.walk.walk.Reads as walk-reads
 
--- src/walk.rt:120:9
 release-requires : tie.Need-release-requires
 release-requires c κs = search needs
 
--- src/walk.rt:121:9
 walk-requires : tie.Need-walk-requires
-walk-requires c κs = search needs
+walk-requires c κs = let s = c .before .before .before .before in let t = s .args .t in let k : Counted 999999999 (release t (t .count) (s .args .s)) = record { at = λ i. omega (arith, release-fits t (s .args .s) (s .pre .1 .1 .0) .at i .ran-high, s .pre .1 .1 .1) } in (s .pre .1 .0, (rw (c .release .ensures) k, s .pre .1 .1 .2))
 
--- src/walk.rt:126:16
 tick-requires : tie.Need-tick-requires
-tick-requires c κs = search needs
+tick-requires c κs = let s = c .before .before .before .before .before .before in rw (c .before .walk .ensures, walk-clock, c .before .before .release .ensures, release-clock) (s .pre .1 .1 .1)
 
--- src/walk.rt:112:1
 returns : tie.Need-returns
-returns c = search needs
+unfolding advance ticked
+returns c = cc
 
 pub advance-spec : {M : Type 1} → statement M
 advance-spec = tie.close (tie.spec release-requires walk-requires tick-requires returns)

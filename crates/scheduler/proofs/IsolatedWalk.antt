@@ -1,0 +1,222 @@
+-- Two walks over one list of threads by falling priority, from states that are alike for d, show d the same and end alike:
+-- a thread above a visible one is visible or marked, because the relation is transitive, so no hidden byte moves the walk past it.
+use Prim.Native.Nat.{ℕ, _<_}
+use native.Mathlib.Omega.{arith}
+use mathlib.Core.Path.{_≡_, refl, sym, ap, _∙_}
+use mathlib.Core.List.{List, [], _∷_}
+use mathlib.Core.Bool.{Bool, true, false}
+use lib.ListN.{getD}
+use lib.Dec.{eqb, ltb}
+use borrow.Author.Tests.{ltb-true, lt-ltb}
+use Rattle.basis.specs.Tests.{pick}
+use Rattle.basis.specs.Told.{answered}
+use Rattle.basis.proofs.TestLaws.{either, both, refuted, fails, and-both, and-of, some-hit, some-found}
+use Rattle.table.specs.Threads.{thread}
+use Rattle.table.specs.Mark.{seen-by, marked}
+use Rattle.table.specs.Legal.{Legal}
+use Rattle.table.specs.declared.Table.{Table}
+use Rattle.table.proofs.MarkLaws.{mark-complete}
+use Rattle.scheduler.specs.State.{progress}
+use Rattle.scheduler.specs.Given.{Below}
+use Rattle.scheduler.specs.Step.{done, counted, paid, pay, finish, heard, runs, count, decided, visit, chosen, walk}
+use Rattle.scheduler.specs.Shown.{visible, view}
+use Rattle.scheduler.specs.Isolated.{Same-step}
+use Rattle.scheduler.specs.declared.Progress.{Progress}
+use Rattle.scheduler.specs.declared.State.{State}
+use Rattle.scheduler.specs.declared.Answer.the-variants.{Ran, IdleFor, Idle}
+use Rattle.scheduler.specs.declared.Walked.{Walked}
+use Rattle.scheduler.proofs.OrderLaws.{All, Falling}
+use Rattle.scheduler.proofs.IsolatedAlike.{Alike, guards, rest-accounted, paid-fair, done-keeps, counted-keeps, keeps-fair, alike-refl, alike-sym, alike-trans, alike-change, alike-kept, alike-hidden}
+
+-- Two walks show d the same and end alike.
+pub record Agree (t : Table) (d : ℕ) (v w : Walked) : Type 0 where
+  pub same : view t d (v .answer) ≡ view t d (w .answer)
+  pub alike : Alike t d (v .state) (w .state)
+
+-- They also both end at this thread, or both go on.
+record Abreast (t : Table) (d : ℕ) (v w : Walked) : Type 0 where
+  agree : Agree t d v w
+  ends : chosen (v .answer) ≡ chosen (w .answer)
+
+-- A walk from s shows d nothing, and changes nothing that matters to d.
+record Quiet (t : Table) (d : ℕ) (s : State) (w : Walked) : Type 0 where
+  gap : view t d (w .answer) ≡ answered []
+  alike : Alike t d s (w .state)
+
+-- The marks m are the table's.
+abbrev pub Marks : Table → List Bool → Type 0
+Marks t m = (i : ℕ) → i < t .count → getD m i false ≡ marked t i
+
+module _ (t : Table) (d : ℕ) where
+  unseen-gap : (i : ℕ) → visible t d i ≡ false → view t d (Ran i) ≡ answered []
+  unfolding view pick
+  unseen-gap i v = rw v
+
+  idle-gap : (i : ℕ) → view t d (IdleFor i) ≡ answered []
+  unfolding view
+  idle-gap i = refl
+
+  nobody-gap : view t d Idle ≡ answered []
+  unfolding view
+  nobody-gap = refl
+
+  quiet-still : (s : State) → Quiet t d s (record { answer = Idle; state = s })
+  quiet-still s = record { gap = nobody-gap; alike = alike-refl t d s }
+
+  quiet-later : {s r : State} {w : Walked} → Alike t d s r → Quiet t d r w → Quiet t d s w
+  quiet-later a q = record { gap = q .gap; alike = alike-trans t d a (q .alike) }
+
+  quiet-both : {s r : State} {v w : Walked} → Alike t d s r → Quiet t d s v → Quiet t d r w → Agree t d v w
+  quiet-both a p q = record {
+    same = p .gap ∙ sym (q .gap);
+    alike = alike-trans t d (alike-sym t d (p .alike)) (alike-trans t d a (q .alike));
+  }
+
+  -- Whatever a thread that d may not see says once it has paid, d is shown nothing of it.
+  quiet-heard : (b i : ℕ) (s : State) → visible t d i ≡ false → Alike t d s (heard b i s)
+  unfolding heard finish
+  quiet-heard b i s v = either (Alike t d s) (eqb b 2) (λ _. alike-kept t d done done-keeps s i v) (λ _. alike-refl t d s)
+
+  quiet-decided : (m : List Bool) (b i : ℕ) (s : State) → visible t d i ≡ false → Quiet t d s (decided m b i s)
+  unfolding decided count
+  quiet-decided m b i s v =
+      either (Quiet t d s) (runs b (progress s i))
+      (λ _. record { gap = unseen-gap i v; alike = alike-kept t d counted counted-keeps s i v })
+      (λ _. either (Quiet t d s) (getD m i false) (λ _. record { gap = idle-gap i; alike = alike-refl t d s }) (λ _. quiet-still s))
+
+  quiet-reached : (m : List Bool) (b i : ℕ) (s : State) → visible t d i ≡ false → Quiet t d s (decided m b i (heard b i s))
+  quiet-reached m b i s v = quiet-later (quiet-heard b i s v) (quiet-decided m b i _ v)
+
+  -- A thread that d may not see, and that stands above no visible one.
+  abbrev Hidden : ℕ → Type 0
+  Hidden i = (visible t d i ≡ false) × (guards t d i ≡ false)
+
+  hidden-visit : (m : List Bool) (b i : ℕ) (s : State) → Hidden i → Quiet t d s (visit m b i s)
+  unfolding visit pay
+  hidden-visit m b i s h =
+      either (Quiet t d s) (eqb (progress s i .rest) 0) (λ _. quiet-still s)
+      (λ _. quiet-later (alike-hidden t d s i _ (h .0) (h .1)) (quiet-reached m b i _ (h .0)))
+
+  hidden-walk : (m : List Bool) (bs is : List ℕ) (s : State) → All Hidden is → Quiet t d s (walk m bs is s)
+  unfolding walk
+  hidden-walk m bs [] s h = quiet-still s
+  hidden-walk m bs (i ∷ is) s h =
+      let q : Quiet t d s (visit m (getD bs i 0) i s) = hidden-visit m (getD bs i 0) i s (h .0) in
+      either (Quiet t d s) (chosen (visit m (getD bs i 0) i s .answer)) (λ _. q)
+      (λ _. quiet-later (q .alike) (hidden-walk m bs is _ (h .1)))
+
+  -- Both walks pass thread i.
+  abreast-still : (s r : State) → Alike t d s r → Abreast t d (record { answer = Idle; state = s }) (record { answer = Idle; state = r })
+  abreast-still s r a = record { agree = record { same = refl; alike = a }; ends = refl }
+
+  -- At a thread that d may see, both walks do the same.
+  visible-heard : (b i : ℕ) (s r : State) → Alike t d s r → Alike t d (heard b i s) (heard b i r)
+  unfolding heard finish
+  visible-heard b i s r a =
+      both (Alike t d) (eqb b 2) _ refl (λ _. alike-change t d done (keeps-fair done done-keeps) s r i a) (λ _. a)
+
+  visible-decided : (m : List Bool) (b i : ℕ) (s r : State) → visible t d i ≡ true → Alike t d s r
+      → Abreast t d (decided m b i s) (decided m b i r)
+  unfolding decided count
+  visible-decided m b i s r v a =
+      both (Abreast t d) (runs b (progress s i)) _ (ap (runs b) (a .common i .seen v))
+      (λ _. record { agree = record { same = refl; alike = alike-change t d counted (keeps-fair counted counted-keeps) s r i a }; ends = refl })
+      (λ _. both (Abreast t d) (getD m i false) _ refl
+      (λ _. record { agree = record { same = refl; alike = a }; ends = refl }) (λ _. abreast-still s r a))
+
+  visible-visit : (m : List Bool) (b i : ℕ) (s r : State) → visible t d i ≡ true → Alike t d s r → Abreast t d (visit m b i s) (visit m b i r)
+  unfolding visit pay
+  visible-visit m b i s r v a =
+      both (Abreast t d) (eqb (progress s i .rest) 0) _ (ap (λ (p : Progress). eqb (p .rest) 0) (a .common i .seen v))
+      (λ _. abreast-still s r a)
+      (λ _. visible-decided m b i _ _ v (visible-heard b i _ _ (alike-change t d paid paid-fair s r i a)))
+
+  -- At a marked thread, both walks pass it or both end there, whatever it says.
+  marked-ends : (m : List Bool) (b i : ℕ) (s : State) → getD m i false ≡ true → chosen (decided m b i s .answer) ≡ true
+  unfolding decided
+  marked-ends m b i s e =
+      let P : Walked → Type 0 = λ w. chosen (w .answer) ≡ true in
+      either P (runs b (progress s i)) (λ _. refl) (λ _. either P (getD m i false) (λ _. refl) (λ n. refuted e n))
+
+  marked-visit : (m : List Bool) (b c i : ℕ) (s r : State) → visible t d i ≡ false → guards t d i ≡ true → getD m i false ≡ true → Alike t d s r
+      → Abreast t d (visit m b i s) (visit m c i r)
+  unfolding visit pay
+  marked-visit m b c i s r v g e a =
+      both (Abreast t d) (eqb (progress s i .rest) 0) _ (ap (λ n. eqb n 0) (rest-accounted (progress s i) (progress r i) (a .common i .held g)))
+      (λ _. abreast-still s r a)
+      (λ _. record {
+        agree = quiet-both (alike-change t d paid paid-fair s r i a) (quiet-reached m b i _ v) (quiet-reached m c i _ v);
+        ends = marked-ends m b i _ e ∙ sym (marked-ends m c i _ e);
+      })
+
+  -- The plain reading of `guards`.
+  record Guarded (i : ℕ) : Type 0 where
+    thread-below : ℕ
+    in-table : thread-below < t .count
+    seen : visible t d thread-below ≡ true
+    lower : thread t thread-below .priority < thread t i .priority
+
+  guarded : (i : ℕ) → guards t d i ≡ true → Guarded i
+  unfolding guards
+  guarded i g =
+      let f = some-found _ (t .count) g in
+      let b = and-both (visible t d (f .number)) _ (f .passes) in
+      record { thread-below = f .number; in-table = f .below; seen = b .0; lower = ltb-true _ _ (b .1) }
+
+  guards-of : (i : ℕ) → Guarded i → guards t d i ≡ true
+  unfolding guards
+  guards-of i g = some-hit _ (g .thread-below) (t .count) (and-of (g .seen) (lt-ltb _ _ (g .lower))) (g .in-table)
+
+  -- Below a hidden thread that stands above no visible one, all are so.
+  below-hidden : (i : ℕ) → guards t d i ≡ false → (k : ℕ) → thread t k .priority < thread t i .priority → k < t .count → Hidden k
+  below-hidden i h k p c = (
+    fails (visible t d k) (λ v. refuted (guards-of i (record { thread-below = k; in-table = c; seen = v; lower = p })) h),
+    fails (guards t d k) (λ g.
+        let j : Guarded k = guarded k g in
+        refuted (guards-of i (record { thread-below = j .thread-below; in-table = j .in-table; seen = j .seen; lower = omega arith })) h),
+  )
+
+  all-hidden : (i : ℕ) → guards t d i ≡ false → (is : List ℕ) → All (λ k. thread t k .priority < thread t i .priority) is → Below (t .count) is
+      → All Hidden is
+  all-hidden i h [] f c = tt
+  all-hidden i h (k ∷ is) f c = (below-hidden i h k (f .0) (c .0), all-hidden i h is (f .1) (c .1))
+
+  -- A hidden thread above a visible one is marked: else its domain could flow to d through the visible one's.
+  guard-marked : Legal t → d < t .domains → (i : ℕ) → i < t .count → visible t d i ≡ false → guards t d i ≡ true → marked t i ≡ true
+  unfolding visible seen-by
+  guard-marked l dd i c v g =
+      let j : Guarded i = guarded i g in
+      let seen = and-both (ltb (j .thread-below) (t .count)) _ (j .seen) in
+      mark-complete t i (record {
+        thread-below = j .thread-below;
+        in-table = j .in-table;
+        lower = j .lower;
+        barred = fails _ (λ f. refuted (and-of (lt-ltb _ _ c)
+            (l .transitive _ _ _ (l .threads i c .domain-high) (l .threads (j .thread-below) (j .in-table) .domain-high) dd f (seen .1))) v);
+      })
+
+  module _ (l : Legal t) (dd : d < t .domains) (m : List Bool) (marks : Marks t m) where
+    -- Two walks over is, from any states that are alike.
+    abbrev Onward : List ℕ → List ℕ → List ℕ → Type 0
+    Onward bs cs is = (s r : State) → Alike t d s r → Agree t d (walk m bs is s) (walk m cs is r)
+
+    abreast-on : (bs cs : List ℕ) (i : ℕ) (is : List ℕ)
+        → ((s r : State) → Alike t d s r → Abreast t d (visit m (getD bs i 0) i s) (visit m (getD cs i 0) i r))
+        → Onward bs cs is → Onward bs cs (i ∷ is)
+    unfolding walk
+    abreast-on bs cs i is visits on s r a =
+        let w = visits s r a in
+        both (Agree t d) (chosen (visit m (getD bs i 0) i s .answer)) _ (w .ends) (λ _. w .agree) (λ _. on _ _ (w .agree .alike))
+
+    pub lockstep : (bs cs : List ℕ) → Same-step t d bs cs → (is : List ℕ) → Falling t is → Below (t .count) is → Onward bs cs is
+    unfolding walk
+    lockstep bs cs h [] f c = λ s r a. record { same = refl; alike = a }
+    lockstep bs cs h (i ∷ is) f c = go (lockstep bs cs h is (f .1) (c .1)) (visible t d i) refl (guards t d i) refl
+      where
+        go : Onward bs cs is → (v : Bool) → visible t d i ≡ v → (g : Bool) → guards t d i ≡ g → Onward bs cs (i ∷ is)
+        go on true v g q = abreast-on bs cs i is (λ s r a. rw (h .same i v) (visible-visit m (getD cs i 0) i s r v a)) on
+        go on false v true q =
+            abreast-on bs cs i is (λ s r a. marked-visit m _ _ i s r v q (marks i (c .0) ∙ guard-marked l dd i (c .0) v q) a) on
+        go on false v false q = λ s r a.
+            let all : All Hidden (i ∷ is) = ((v, q), all-hidden i q is (f .0) (c .1)) in
+            quiet-both a (hidden-walk m bs (i ∷ is) s all) (hidden-walk m cs (i ∷ is) r all)

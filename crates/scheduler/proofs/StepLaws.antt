@@ -1,0 +1,87 @@
+-- A step hands back a state that fits again, one clock on, and chooses only a thread that had a rest when the walk began: no
+-- visit raises a rest, so a thread reached with one had it before.
+use Prim.Native.Nat.{ℕ, _+_, _-_, _%_, _≤_, _<_}
+use mathlib.Core.Path.{_≡_, refl}
+use mathlib.Core.List.{List, [], _∷_}
+use mathlib.Core.Bool.{Bool, true, false}
+use native.Mathlib.Omega.{arith}
+use native.Mathlib.Nat.{le-refl}
+use borrow.Author.Tests.{eqb-false, ne-eqb, eq-eqb, le-ltb}
+use lib.ListN.{getD}
+use lib.Dec.{eqb}
+use Rattle.basis.specs.Tests.{pick}
+use Rattle.basis.proofs.TestLaws.{both-ways, either}
+use Rattle.table.specs.Mark.{marks-of}
+use Rattle.table.specs.Threads.{thread}
+use Rattle.table.specs.declared.Table.{Table}
+use Rattle.scheduler.specs.declared.Answer.{Answer}
+use Rattle.scheduler.specs.declared.Answer.the-variants.{Ran, IdleFor, Idle}
+use Rattle.scheduler.specs.declared.State.{State}
+use Rattle.scheduler.specs.declared.Walked.{Walked}
+use Rattle.scheduler.specs.State.{progress, last-clock, Fits}
+use Rattle.scheduler.specs.Given.{Each}
+use Rattle.scheduler.specs.Order.{order}
+use Rattle.scheduler.specs.Step.{at-phase, released, release, decided, visit, chosen, walk, ticked, advance, step}
+use Rattle.scheduler.specs.Taken.{took, unrested, rested}
+use Rattle.scheduler.proofs.OrderLaws.{order-below}
+use Rattle.scheduler.proofs.WalkLaws.{Kept, passed-each, walk-on, walk-stop, release-at}
+use Rattle.scheduler.proofs.FitLaws.{advance-clock, advance-fits}
+
+module _ (t : Table) (bs : List ℕ) (s : State) where
+  pub step-clock : step t bs s .state .clock ≡ s .clock + 1
+  unfolding step
+  step-clock = advance-clock t (marks-of t) (order t) bs s
+
+  pub step-fits : Fits t s → s .clock < last-clock → Fits t (step t bs s .state)
+  unfolding step
+  step-fits f h = advance-fits t (marks-of t) (order t) bs s (order-below t) f h
+
+-- No thread has more rest than in s.
+abbrev pub Spent : State → State → Type 0
+Spent s z = Each (λ i p. p .rest ≤ progress s i .rest) z
+
+pub kept-spent : (n : ℕ) (s : State) → Kept n (λ i p. p .rest ≤ progress s i .rest)
+kept-spent n s = record { pays = λ i p l h. omega arith; finishes = λ i p l h. h }
+
+-- The thread that a visit chooses has a rest there, and so in every state with no less rest.
+visit-rested : (m : List Bool) (b i : ℕ) (s : State) → unrested (visit m b i s .answer) s ≡ false
+unfolding visit decided
+visit-rested m b i s =
+    let R : Walked → Type 0 = λ w. unrested (w .answer) s ≡ false in
+    either R (eqb (progress s i .rest) 0) (λ e. refl) (λ e. both-ways R _ _ _ e (both-ways R _ _ _ e refl))
+
+had-rest : (s z : State) → Spent s z → (i : ℕ) → eqb (progress z i .rest) 0 ≡ false → eqb (progress s i .rest) 0 ≡ false
+had-rest s z h i e = ne-eqb (progress s i .rest) 0 (λ q. eqb-false (progress z i .rest) 0 e (omega (arith, h .at i)))
+
+rested-before : (s z : State) → Spent s z → (a : Answer) → unrested a z ≡ false → unrested a s ≡ false
+rested-before s z h (Ran i) e = had-rest s z h i e
+rested-before s z h (IdleFor i) e = had-rest s z h i e
+rested-before s z h Idle e = refl
+
+module _ (m : List Bool) (bs : List ℕ) (s : State) where
+  turn : (i : ℕ) (is : List ℕ) (z : State) → Spent s z → ((y : State) → Spent s y → unrested (walk m bs is y .answer) s ≡ false)
+      → (b : Bool) → chosen (visit m (getD bs i 0) i z .answer) ≡ b → unrested (walk m bs (i ∷ is) z .answer) s ≡ false
+  turn i is z h rest true e = rw (walk-stop m bs i is z e) (rested-before s z h (visit m (getD bs i 0) i z .answer) (visit-rested m (getD bs i 0) i z))
+  turn i is z h rest false e =
+      rw (walk-on m bs i is z e) (rest _ (passed-each m (i + 1) _ (kept-spent (i + 1) s) _ i z (omega arith) h e))
+
+  walk-rested : (is : List ℕ) (z : State) → Spent s z → unrested (walk m bs is z .answer) s ≡ false
+  unfolding walk
+  walk-rested [] z h = refl
+  walk-rested (i ∷ is) z h = turn i is z h (walk-rested is) _ refl
+
+-- The thread chosen had a rest when the walk began.
+pub chosen-rested : (m : List Bool) (bs is : List ℕ) (s : State) → unrested (walk m bs is s .answer) s ≡ false
+chosen-rested m bs is s = walk-rested m bs s is s (record { at = λ i. le-refl _ })
+
+-- So 17 is never given.
+pub rested-always : (t : Table) (bs : List ℕ) (s : State) → rested s (release t (t .count) s) (step t bs s) ≡ took (step t bs s)
+unfolding rested step advance ticked pick
+rested-always t bs s = simp (chosen-rested (marks-of t) bs (order t) (release t (t .count) s))
+
+-- A release at phase 0 refills the budget.
+pub rest-after-release : (t : Table) (s : State) (i : ℕ) → t .count ≤ 32 → Fits t s → i < t .count → thread t i .offset ≤ s .clock
+    → (s .clock - thread t i .offset) % thread t i .period ≡ 0 → progress (release t (t .count) s) i .rest ≡ thread t i .budget
+unfolding released at-phase pick
+rest-after-release t s i few f l late phase =
+    rw (release-at t (t .count) s i l (rw (f .long) few), le-ltb _ _ late, eq-eqb _ _ phase)
