@@ -2,14 +2,14 @@
 use Prim.Native.Nat.{ℕ, _+_}
 use mathlib.Core.List.{List, [], _∷_, map}
 use lib.ListN.{replicate}
-use lib.Dec.{eqb}
-use Rattle.basis.specs.Tests.{pick}
-use Rattle.basis.specs.Told.{Told}
 use Rattle.table.specs.Threads.{none}
 use Rattle.table.specs.declared.Table.{Table}
 use Rattle.scheduler.specs.State.{fresh}
-use Rattle.scheduler.specs.Taken.{Taken}
-use Rattle.scheduler.specs.Isolated.{Shown-call, calls, shown-of}
+use Rattle.scheduler.specs.Step.{step}
+use Rattle.scheduler.specs.Shown.{view}
+use Rattle.scheduler.specs.declared.State.{State}
+use Rattle.scheduler.specs.declared.Answer.{Answer}
+use Rattle.scheduler.specs.declared.Answer.the-variants.{Ran, IdleFor, Idle}
 
 -- Thread 0 sends these bytes, and thread 1 sends 1 each time.
 abbrev pub sent : List ℕ → List (List ℕ)
@@ -26,26 +26,27 @@ idle-for i = 32 + i
 abbrev pub idle : ℕ
 idle = 255
 
--- A call's answer as one such number; a refusal as 1,000 and its number.
-abbrev of-values : List ℕ → ℕ
-of-values [] = idle
-of-values (kind ∷ []) = idle
-of-values (kind ∷ i ∷ more) = pick (eqb kind 0) (ran i) (idle-for i)
+abbrev as-number : Answer → ℕ
+as-number (Ran i) = ran i
+as-number (IdleFor i) = idle-for i
+as-number Idle = idle
 
-abbrev answer : Told → ℕ
-answer r = pick (eqb (r .number) 0) (of-values (r .values)) (1000 + r .number)
+-- The answers of a run of steps, in turn.
+abbrev run : Table → List (List ℕ) → State → List Answer
+run t [] s = []
+run t (bs ∷ more) s = step t bs s .answer ∷ run t more (step t bs s .state)
 
--- The answers of the calls from a fresh start.
+-- The answers from a fresh start.
 abbrev pub answers : Table → List ℕ → List ℕ
-answers t bs = map (λ (c : Taken). answer (c .told)) (calls t (sent bs) fresh)
+answers t bs = map as-number (run t (sent bs) fresh)
 
--- What a domain is told at each step: a thread, or idle for a gap.
-abbrev of-shown : List ℕ → ℕ
-of-shown [] = idle
-of-shown (i ∷ more) = i
+-- What a domain is shown at each step: a thread, or idle for a gap.
+abbrev first-value : List ℕ → ℕ
+first-value [] = idle
+first-value (i ∷ more) = i
 
 abbrev pub shown-to : Table → ℕ → List ℕ → List ℕ
-shown-to t d bs = map (λ (c : Shown-call). of-shown (c .told .values)) (map (shown-of t d) (calls t (sent bs) fresh))
+shown-to t d bs = map (λ (a : Answer). first-value (view t d a .values)) (run t (sent bs) fresh)
 
 -- K-9's table: one domain, P 10, O 0, B 0; thread 0 above with W 1, D 1, thread 1 with W 3, D 3.
 abbrev pub short-deadlines : Table
