@@ -7,9 +7,10 @@ use native.Mathlib.Numerals.{add-one}
 use native.Mathlib.Decide.{le-ind}
 use native.Mathlib.Nat.{eq-or-lt-of-le, sub-zero}
 use native.Mathlib.Omega.{arith}
-use lib.ListN.{length, set, replicate, length-append}
-use lib.Seq.{set-at, append-snoc}
+use lib.ListN.{length, getD, set, replicate, length-append, List·getD-eq-default}
+use lib.Seq.{set-at, getD-at, append-snoc}
 use Rattle.basis.specs.Search.{Sought, nothing, found, or-else, first, listed}
+use Rattle.basis.proofs.ListLaws.{padded}
 
 -- The steps of a loop over `first`: none yet, one more that finds nothing, the end, and the first that is found.
 pub first-none : {A : Type 0} (f : ℕ → Sought A) → first 0 f ≡ nothing
@@ -79,3 +80,15 @@ listed-next f z i n h =
     let q : n - i ≡ suc (n - suc i) = omega arith in
     rw (q, add-one, set-at (listed i f) z (replicate (n - suc i) z) (f i) i (length-listed i f))
     (sym (append-snoc (listed i f) (f i) (replicate (n - suc i) z)))
+
+-- What stands at a place of such an array: f of the place, and behind what was filled the value that it was filled up with.
+pub listed-at : {A : Type 0} (f : ℕ → A) (n i : ℕ) (rest : List A) (d : A) → i < n → getD (listed n f ++ rest) i d ≡ f i
+unfolding listed
+listed-at f zero i rest d h = absurd (omega arith)
+listed-at f (suc n) i rest d h =
+    rw (append-snoc (listed n f) (f n) rest)
+    (⊎-elim (λ (q : i ≡ n). rw q (getD-at (listed n f) (f n) rest d n (length-listed n f)))
+    (λ (q : i < n). listed-at f n i (f n ∷ rest) d q) (eq-or-lt-of-le (omega arith)))
+
+pub listed-past : {A : Type 0} (f : ℕ → A) (n m i : ℕ) (z : A) → n ≤ i → getD (listed n f ++ replicate m z) i z ≡ z
+listed-past f n m i z h = padded (listed n f) m i z ∙ List·getD-eq-default (listed n f) z (rw (length-listed n f) h)

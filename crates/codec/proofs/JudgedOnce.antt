@@ -14,6 +14,7 @@ use Rattle.basis.proofs.TestLaws.{by-test, refuted}
 use Rattle.numeral.specs.declared.Number.{Number}
 use Rattle.numeral.specs.declared.Number.the-variants.{Value, Refused}
 use Rattle.numeral.specs.Number.{number-at}
+use Rattle.numeral.proofs.RuleLaws.{number-exactly}
 use Rattle.codec.specs.Judging.{objection, wanted, Before, place, Judgment, no-number, objected, extra, all-read}
 use Rattle.codec.proofs.BeforeLaws.{before-number}
 
@@ -50,20 +51,19 @@ record End (s : List ℕ) (o : Told) : Type 0 where
 
 end-of : (s : List ℕ) (o : Told) → Judgment s o → End s o
 unfolding end-told number-told pick
-end-of s o (no-number vs why b w e) = record {
-  numbers = vs;
-  before = b;
-  ends = λ g. no-value e (g .reads);
-  told = rw (w, e);
-}
-end-of s o (objected vs v next b w e h) = record {
-  numbers = vs;
-  before = b;
-  ends = λ g.
-      let q : objection vs v ≡ answered [] = rw (value-same e (g .reads)) (g .passed) in
-      omega (arith, ap (λ (t : Told). t .number) q);
-  told = rw (w, e);
-}
+end-of s o (no-number vs why b w e) =
+    let f : number-at s (place vs) ≡ Refused why = number-exactly s (place vs) (Refused why) .1 e in
+    record { numbers = vs; before = b; ends = λ g. no-value f (g .reads); told = rw (w, f) }
+end-of s o (objected vs v next b w e h) =
+    let f : number-at s (place vs) ≡ Value v next = number-exactly s (place vs) (Value v next) .1 e in
+    record {
+      numbers = vs;
+      before = b;
+      ends = λ g.
+          let q : objection vs v ≡ answered [] = rw (value-same f (g .reads)) (g .passed) in
+          omega (arith, ap (λ (t : Told). t .number) q);
+      told = rw (w, f);
+    }
 end-of s o (extra vs b w h) = record {
   numbers = vs;
   before = b;

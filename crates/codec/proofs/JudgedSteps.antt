@@ -23,6 +23,7 @@ use Rattle.reader.specs.Reader.{took, number-from, judged, ranged, row-from, ro
 use Rattle.codec.specs.Judging.{fault, row-gap, objection, wanted, Before, place, Judgment, no-number, objected, extra, all-read}
 use Rattle.numeral.proofs.NumberLaws.{Bytes, Told-why, number-why, encode-all-last}
 use Rattle.numeral.proofs.Runs.{number-reads}
+use Rattle.numeral.proofs.RuleLaws.{number-exactly}
 use Rattle.codec.proofs.BeforeLaws.{before-next}
 
 -- The reader has read vs, and stands after them.
@@ -89,7 +90,8 @@ module _ (s : List ℕ) where
   pub objected-by : {vs : List ℕ} {x : ℕ → ℕ} {c : Cursor} (o : Told) → Tested s vs x c → objection vs (c .value) ≡ o → 0 < o .number
       → Judgment s (record { number = o .number; values = c .start ∷ o .values })
   objected-by {vs} {x} {c} o t e h =
-      rw (t .starts, ← e) (objected vs (c .value) (c .next) (t .before) (t .wants) (t .reads) (rw e h))
+      let n = number-exactly s (place vs) (Value (c .value) (c .next)) .0 (t .reads) in
+      rw (t .starts, ← e) (objected vs (c .value) (c .next) (t .before) (t .wants) n (rw e h))
 
   retested : {vs : List ℕ} {x y : ℕ → ℕ} {c : Cursor} → ((v : ℕ) → x v ≡ y v) → Tested s vs x c → Tested s vs y c
   retested {c = c} e t = record {
@@ -127,7 +129,7 @@ module _ (s : List ℕ) where
     where
       go : (n : Number) → number-at s (place vs) ≡ n → Told-why n → (Tested s vs (fault vs) (took (place vs) n)) ⊎ (Stopped s (took (place vs) n))
       go (Value v q) e h = inl (record { before = g .before; wants = w; well = refl; starts = refl; reads = e; left = refl })
-      go (Refused why) e h = inr (record { refuses = h; judgment = no-number vs why (g .before) w e })
+      go (Refused why) e h = inr (record { refuses = h; judgment = no-number vs why (g .before) w (number-exactly s (place vs) (Refused why) .0 e) })
 
   -- One number with one test.
   pub one-step : {vs : List ℕ} {c : Cursor} (ok : ℕ → Bool) (x : ℕ → ℕ) (why : ℕ) → 0 < why → ((v : ℕ) → fault vs v ≡ pick (ok v) (x v) why)

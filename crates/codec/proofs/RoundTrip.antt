@@ -1,14 +1,13 @@
 -- Demand 2: both round trips, from the one statement that a table is accepted exactly from its own bytes.
-use Prim.Native.Nat.{ℕ, _+_, _≤_, _<_}
-use mathlib.Core.Path.{_≡_, refl, ap, sym, _∙_}
-use mathlib.Core.Bool.{Bool, true, false}
+use Prim.Native.Nat.{ℕ, _+_, _≤_}
+use mathlib.Core.Path.{_≡_, refl, ap}
+use mathlib.Core.Bool.{true, false}
 use mathlib.Core.Logic.{_↔_}
-use mathlib.Core.List.{List, [], _∷_, _++_, append-assoc}
+use mathlib.Core.List.{List, [], _∷_}
 use native.Mathlib.Omega.{arith}
-use lib.ListN.{length, take, drop, length-append}
-use lib.Seq.{length-take-le, take-at, drop-at}
+use lib.ListN.{length, take, drop}
 use lib.Dec.{leb}
-use borrow.Author.Tests.{leb-true, le-leb}
+use borrow.Author.Tests.{le-leb}
 use Rattle.basis.specs.Tests.{pick}
 use Rattle.basis.specs.Told.{Told, answered, refused}
 use Rattle.basis.proofs.TestLaws.{by-test}
@@ -18,6 +17,7 @@ use Rattle.table.proofs.LegalLaws.{legal-sound, legal-complete}
 use Rattle.writer.specs.Format.{bytes}
 use Rattle.reader.specs.Reader.{accepted, reading}
 use Rattle.writer.specs.Writer.{overlaid, writing, written}
+use Rattle.writer.proofs.WriterLaws.{written-laid}
 use Rattle.numeral.proofs.NumberLaws.{Bytes}
 use Rattle.codec.proofs.Sound.{sound}
 use Rattle.codec.proofs.Complete.{complete}
@@ -35,28 +35,11 @@ read-write s hs t e b at h =
     let l : leb (at + length (bytes t)) (length b) ≡ true = rw (← r .0) (le-leb _ _ h) in
     (rw (legal-complete t (r .1), l, ← r .0), rw (legal-complete t (r .1), l, ← r .0))
 
--- The part from a place on of what was laid there is what was laid.
-part-back : (b xs : List ℕ) (at : ℕ) → at + length xs ≤ length b → drop at (take (at + length xs) (overlaid b at xs)) ≡ xs
-unfolding overlaid
-part-back b xs at h =
-    let l : length (take at b) ≡ at = length-take-le at b (omega arith) in
-    let e : take (at + length xs) (take at b ++ xs ++ drop (at + length xs) b) ≡ take at b ++ xs
-    = take-at (take at b ++ xs) (drop (at + length xs) b) (at + length xs) (rw (length-append (take at b) xs, l)) in
-    rw e (drop-at (take at b) xs at l)
-
 -- Writing a legal table and reading what was written gives the same table.
 pub write-read : (t : Table) → Sized t → (b : List ℕ) (at next : ℕ) → writing b at t ≡ answered (next ∷ []) →
     reading (drop at (take next (written b at t))) ≡ accepted t
-unfolding writing written pick
+unfolding writing pick
 write-read t z b at next e =
-    by-test (legal t)
-    (λ l. by-test (leb (at + length (bytes t)) (length b))
-    (λ m. let f : answered ((at + length (bytes t)) ∷ []) ≡ answered (next ∷ []) = rw (l, m) at e in
-    let v = ap (λ (w : Told). w .values) f in
-    let q : at + length (bytes t) ≡ next = cc in
-    rw (l, m, ← q, part-back b (bytes t) at (leb-true _ _ m)) (complete (bytes t) t (legal-sound t z l) refl))
-    (λ m. wrong 16 next (omega arith) (rw (l, m) at e)))
-    (λ l. wrong 11 next (omega arith) (rw l at e))
-  where
-    wrong : {A : Type 0} (w next : ℕ) → 0 < w → refused w ≡ answered (next ∷ []) → A
-    wrong w next h f = let q : w ≡ 0 = ap (λ (x : Told). x .number) f in absurd (omega arith)
+    by-test (legal t) (λ l. rw (written-laid b at t next e .part) (complete (bytes t) t (legal-sound t z l) refl))
+    (λ l. let f : refused 11 ≡ answered (next ∷ []) = rw l at e in
+    let n = ap (λ (w : Told). w .number) f in absurd (omega arith))

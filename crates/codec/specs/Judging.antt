@@ -11,8 +11,8 @@ use Rattle.basis.specs.Told.{Told, answered, refused}
 use Rattle.flow.specs.Flow.{row-ok}
 use Rattle.flow.specs.Gap.{first-gap, gap-told}
 use Rattle.table.specs.Ranges.{within, domain-counts, thread-counts, field-range}
-use Rattle.numeral.specs.Number.{number-at, encode-all}
-use Rattle.numeral.specs.declared.Number.the-variants.{Value, Refused}
+use Rattle.numeral.specs.Number.{encode-all}
+use Rattle.numeral.specs.NumberRules.{No-number, Number-value}
 
 -- Why v is refused as the next field after the fields fs of the threads so far, in a table of d domains (0: it passes):
 -- thread i is being read, k is its next field, and field 1 is the priority.
@@ -62,10 +62,10 @@ place vs = length (encode-all vs)
 -- What the rules say of the bytes s.
 pub data Judgment (s : List ℕ) : Told → Type 0 where
   -- 1, 2, 3: a number is wanted, and what stands there is none
-  no-number : (vs : List ℕ) (why : ℕ) → Before s vs → wanted vs ≡ true → number-at s (place vs) ≡ Refused why
+  no-number : (vs : List ℕ) (why : ℕ) → Before s vs → wanted vs ≡ true → No-number (drop (place vs) s) why
       → Judgment s (record { number = why; values = place vs ∷ [] })
   -- 4 to 9: a number is wanted and stands there, and is objected to
-  objected : (vs : List ℕ) (v next : ℕ) → Before s vs → wanted vs ≡ true → number-at s (place vs) ≡ Value v next
+  objected : (vs : List ℕ) (v next : ℕ) → Before s vs → wanted vs ≡ true → Number-value (place vs) (drop (place vs) s) v next
       → 0 < objection vs v .number
       → Judgment s (record { number = objection vs v .number; values = place vs ∷ objection vs v .values })
   -- 10: no number is wanted, and bytes are left

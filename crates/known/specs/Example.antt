@@ -19,7 +19,11 @@ two a b x y = record { domains = 2; count = 2; rows = a ∷ b ∷ replicate 14 0
 abbrev pub example : Table
 example = two 3 2 upper lower
 
--- Its bytes, as document 01 prints them.
+-- E with row 2 set, though it has two domains: not legal.
+abbrev pub row-too-many : Table
+row-too-many = record { domains = 2; count = 2; rows = 3 ∷ 2 ∷ 4 ∷ replicate 13 0; threads = upper ∷ lower ∷ replicate 30 none }
+
+-- E's bytes, as document 01 prints them.
 abbrev pub example-bytes : List ℕ
 example-bytes =
     0x01 ∷ 0x02 ∷ 0x02 ∷ 0x03 ∷ 0x02

@@ -9,14 +9,16 @@ use Rattle.basis.specs.Search.{first, listed}
 use Rattle.basis.specs.Told.{Told}
 use Rattle.flow.specs.Flow.{flows, row-ok}
 use Rattle.flow.specs.Gap.{broken, gap-at, gap-by-c, gap-by-b, first-gap, gap-told}
+use Rattle.table.specs.declared.Table.{Table}
 use Rattle.table.specs.Ranges.{within, field-ranges, field-range}
 use Rattle.table.specs.Legal.{row-legal, field-ok, thread-ok, field-zero, thread-zero, taken, place-legal, legal}
-use Rattle.table.specs.Mark.{seen-by, hidden-below, marked}
+use Rattle.table.specs.Mark.{seen-by, hidden-below, marked, marks-of, marking, marks-given}
 use Rattle.numeral.specs.Number.{third, second, number, number-at, encode, encode-all}
 use Rattle.numeral.specs.Number.{told as number-told}
 use Rattle.writer.specs.Format.{row-numbers, thread-numbers, numbers, bytes}
+use Rattle.writer.specs.Writer.{overlaid, writing, written}
 use Rattle.reader.specs.Reader.{number-from, judged, ranged, row-from, rows-from, free, field-from, fields-from, threads-from, ended, after-rows, version-from, domains-from, count-from, reading}
-use Rattle.known.specs.Example.{example, example-bytes, written-out}
+use Rattle.known.specs.Example.{example, row-too-many, example-bytes, written-out}
 
 -- A statement of document 01: what the definitions compute, and what was found by hand.
 pub record Entry : Type 0 where
@@ -35,29 +37,88 @@ number-of s = flat (number-told (number-at s 0))
 abbrev gap-of : ℕ → ℕ → ℕ → List ℕ
 gap-of a b c = flat (gap-told (first-gap (a ∷ b ∷ c ∷ replicate 13 0) 3))
 
--- 1 for a marked thread, 0 for another.
-abbrev mark : ℕ → ℕ
-mark i = pick (marked example i) 1 0
+-- What `read` tells of these bytes.
+abbrev read-told : List ℕ → List ℕ
+read-told s = flat (reading s .told)
+
+-- What `marks` tells of a table, and then the 32 marks: 1 for a marked place, 0 for another.
+abbrev marks-told : Table → List ℕ
+marks-told t = flat (marking t) ++ map (λ (m : Bool). pick m 1 0) (marks-given t)
+
+-- What `write` tells of a table in a buffer from a place on, and then what the buffer holds.
+abbrev write-told : List ℕ → ℕ → Table → List ℕ
+write-told b at t = flat (writing b at t) ++ written b at t
 
 abbrev known : List Entry
 known =
     -- example E is legal; its bytes, and what they are read to
     record { computed = pick (legal example) 1 0 ∷ []; by-hand = 1 ∷ [] }
     ∷ record { computed = bytes example; by-hand = example-bytes }
-    ∷ record { computed = flat (reading example-bytes .told); by-hand = 0 ∷ [] }
+    ∷ record { computed = read-told example-bytes; by-hand = 0 ∷ [] }
     ∷ record { computed = written-out (reading example-bytes .table); by-hand = written-out example }
-    -- E without its last byte, with another fourth byte, and with one byte more
-    ∷ record { computed = flat (reading (take 18 example-bytes) .told); by-hand = 1 ∷ 18 ∷ [] }
-    ∷ record { computed = flat (reading (set example-bytes 3 0x07) .told); by-hand = 6 ∷ 3 ∷ [] }
-    ∷ record { computed = flat (reading (example-bytes ++ (0x00 ∷ [])) .told); by-hand = 10 ∷ 19 ∷ [] }
-    -- K-1: in E thread 0 is marked, thread 1 is not
-    ∷ record { computed = mark 0 ∷ mark 1 ∷ []; by-hand = 1 ∷ 0 ∷ [] }
-    -- K-7: 128, 60,000 and 65,535; 2 and 3
+    -- 1: no bytes at all; E without its last byte; E with a last number whose second byte is missing
+    ∷ record { computed = read-told []; by-hand = 1 ∷ 0 ∷ [] }
+    ∷ record { computed = read-told (take 18 example-bytes); by-hand = 1 ∷ 18 ∷ [] }
+    ∷ record { computed = read-told (take 18 example-bytes ++ (0x80 ∷ [])); by-hand = 1 ∷ 18 ∷ [] }
+    -- 2: the last number 0 in two bytes
+    ∷ record { computed = read-told (take 18 example-bytes ++ (0x80 ∷ 0x00 ∷ [])); by-hand = 2 ∷ 18 ∷ [] }
+    -- 3: thread 0's period 65,536, and in more than three bytes
+    ∷ record { computed = read-told (take 7 example-bytes ++ (0x80 ∷ 0x80 ∷ 0x04 ∷ [])); by-hand = 3 ∷ 7 ∷ [] }
+    ∷ record { computed = read-told (take 7 example-bytes ++ (0x80 ∷ 0x80 ∷ 0x80 ∷ 0x01 ∷ [])); by-hand = 3 ∷ 7 ∷ [] }
+    -- 4: version 2
+    ∷ record { computed = read-told (set example-bytes 0 0x02); by-hand = 4 ∷ 0 ∷ [] }
+    -- 5: 0 and 17 domains, 0 and 33 threads
+    ∷ record { computed = read-told (set example-bytes 1 0x00); by-hand = 5 ∷ 1 ∷ [] }
+    ∷ record { computed = read-told (set example-bytes 1 0x11); by-hand = 5 ∷ 1 ∷ [] }
+    ∷ record { computed = read-told (set example-bytes 2 0x00); by-hand = 5 ∷ 2 ∷ [] }
+    ∷ record { computed = read-told (set example-bytes 2 0x21); by-hand = 5 ∷ 2 ∷ [] }
+    -- 6: row 0 has a bit for domain 2, which the table lacks; row 1 lacks its own
+    ∷ record { computed = read-told (set example-bytes 3 0x07); by-hand = 6 ∷ 3 ∷ [] }
+    ∷ record { computed = read-told (set example-bytes 4 0x01); by-hand = 6 ∷ 4 ∷ [] }
+    -- 7: version 1, 3 domains, 1 thread, rows 3, 6, 4: 0 flows to 1, 1 to 2, 0 not to 2; the last row stands at 5
+    ∷ record { computed = read-told (0x01 ∷ 0x03 ∷ 0x01 ∷ 0x03 ∷ 0x06 ∷ 0x04 ∷ []); by-hand = 7 ∷ 5 ∷ 0 ∷ 1 ∷ 2 ∷ [] }
+    -- 8: thread 0's domain 2, priority 256, period 0, offset 10, budget 11, deadline 3, blocking share 5
+    ∷ record { computed = read-told (set example-bytes 5 0x02); by-hand = 8 ∷ 5 ∷ [] }
+    ∷ record { computed = read-told (take 6 example-bytes ++ (0x80 ∷ 0x02 ∷ [])); by-hand = 8 ∷ 6 ∷ [] }
+    ∷ record { computed = read-told (set example-bytes 7 0x00); by-hand = 8 ∷ 7 ∷ [] }
+    ∷ record { computed = read-told (set example-bytes 8 0x0A); by-hand = 8 ∷ 8 ∷ [] }
+    ∷ record { computed = read-told (set example-bytes 9 0x0B); by-hand = 8 ∷ 9 ∷ [] }
+    ∷ record { computed = read-told (set example-bytes 10 0x03); by-hand = 8 ∷ 10 ∷ [] }
+    ∷ record { computed = read-told (set example-bytes 11 0x05); by-hand = 8 ∷ 11 ∷ [] }
+    -- 9: thread 1 with thread 0's priority
+    ∷ record { computed = read-told (set example-bytes 13 0x1E); by-hand = 9 ∷ 13 ∷ [] }
+    -- 10: one byte more
+    ∷ record { computed = read-told (example-bytes ++ (0x00 ∷ [])); by-hand = 10 ∷ 19 ∷ [] }
+    -- a refused reading's table is zero in all 2 + 16 + 32 * 7 numbers, at the first byte and at the last
+    ∷ record { computed = written-out (reading [] .table); by-hand = replicate 242 0 }
+    ∷ record { computed = written-out (reading (take 18 example-bytes) .table); by-hand = replicate 242 0 }
+    -- K-1: in E thread 0 is marked, thread 1 is not, nor is a place past them; 11 with no marks for a table that is not legal
+    ∷ record { computed = marks-told example; by-hand = 0 ∷ 1 ∷ 0 ∷ replicate 30 0 }
+    ∷ record { computed = marks-told row-too-many; by-hand = 11 ∷ replicate 32 0 }
+    -- E written into 24 bytes from place 3 on: the place after it is 22, and the bytes around it stay
+    ∷ record {
+      computed = write-told (replicate 24 0xFF) 3 example;
+      by-hand = 0 ∷ 22 ∷ 0xFF ∷ 0xFF ∷ 0xFF ∷ (example-bytes ++ (0xFF ∷ 0xFF ∷ []));
+    }
+    -- 16 and the bytes as they were: one byte too few, and a place past the end
+    ∷ record { computed = write-told (replicate 18 0xFF) 0 example; by-hand = 16 ∷ replicate 18 0xFF }
+    ∷ record { computed = write-told (replicate 24 0xFF) 6 example; by-hand = 16 ∷ replicate 24 0xFF }
+    ∷ record { computed = write-told (replicate 24 0xFF) 25 example; by-hand = 16 ∷ replicate 24 0xFF }
+    -- 11 and the bytes as they were: a table that is not legal, where there is room and where there is none
+    ∷ record { computed = write-told (replicate 24 0xFF) 0 row-too-many; by-hand = 11 ∷ replicate 24 0xFF }
+    ∷ record { computed = write-told (replicate 2 0xFF) 3 row-too-many; by-hand = 11 ∷ replicate 2 0xFF }
+    -- K-7: 128, 60,000 and 65,535
     ∷ record { computed = number-of (0x80 ∷ 0x01 ∷ []); by-hand = 0 ∷ 128 ∷ 2 ∷ [] }
     ∷ record { computed = number-of (0xE0 ∷ 0xD4 ∷ 0x03 ∷ []); by-hand = 0 ∷ 60000 ∷ 3 ∷ [] }
     ∷ record { computed = number-of (0xFF ∷ 0xFF ∷ 0x03 ∷ []); by-hand = 0 ∷ 65535 ∷ 3 ∷ [] }
+    -- K-7: 1 for a missing byte, 2 for a last byte of 0, 3 for a third byte with its top bit set and for a value above 65,535
+    ∷ record { computed = number-of (0x80 ∷ []); by-hand = 1 ∷ [] }
+    ∷ record { computed = number-of (0x80 ∷ 0x80 ∷ []); by-hand = 1 ∷ [] }
     ∷ record { computed = number-of (0x80 ∷ 0x00 ∷ []); by-hand = 2 ∷ [] }
+    ∷ record { computed = number-of (0x80 ∷ 0x80 ∷ 0x00 ∷ []); by-hand = 2 ∷ [] }
+    ∷ record { computed = number-of (0x80 ∷ 0x80 ∷ 0x80 ∷ []); by-hand = 3 ∷ [] }
     ∷ record { computed = number-of (0x80 ∷ 0x80 ∷ 0x04 ∷ []); by-hand = 3 ∷ [] }
+    ∷ record { computed = number-of (0xFF ∷ 0xFF ∷ 0x04 ∷ []); by-hand = 3 ∷ [] }
     -- K-8: rows 3, 6, 4 give 7 with 0, 1, 2; rows 7, 6, 4 pass
     ∷ record { computed = gap-of 3 6 4; by-hand = 7 ∷ 0 ∷ 1 ∷ 2 ∷ [] }
     ∷ record { computed = gap-of 7 6 4; by-hand = 0 ∷ [] }
@@ -65,5 +126,5 @@ known =
 
 -- The one claim.
 pub all-known : map (λ (e : Entry). e .computed) known ≡ map (λ (e : Entry). e .by-hand) known
-unfolding pick every some first listed flows row-ok broken gap-at gap-by-c gap-by-b first-gap within field-ranges field-range row-legal field-ok thread-ok field-zero thread-zero taken place-legal legal seen-by hidden-below marked third second number number-at encode encode-all row-numbers thread-numbers numbers bytes number-from judged ranged row-from rows-from free field-from fields-from threads-from ended after-rows version-from domains-from count-from reading
+unfolding pick every some first listed flows row-ok broken gap-at gap-by-c gap-by-b first-gap within field-ranges field-range row-legal field-ok thread-ok field-zero thread-zero taken place-legal legal seen-by hidden-below marked marks-of marking marks-given third second number number-at encode encode-all row-numbers thread-numbers numbers bytes overlaid writing written number-from judged ranged row-from rows-from free field-from fields-from threads-from ended after-rows version-from domains-from count-from reading
 all-known = refl

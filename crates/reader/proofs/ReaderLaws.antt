@@ -9,10 +9,12 @@ use native.Mathlib.Numerals.{add-one}
 use native.Mathlib.Omega.{arith}
 use lib.ListN.{length, set, getD, replicate, length-set}
 use lib.Seq.{getD-set-same, getD-set-other}
-use lib.Dec.{eqb}
+use lib.Dec.{eqb, ltb}
 use Rattle.basis.specs.Tests.{pick}
 use Rattle.basis.specs.Told.{Told}
-use Rattle.basis.proofs.TestLaws.{by-test}
+use Rattle.basis.specs.Search.{Sought, nothing, found}
+use Rattle.basis.proofs.TestLaws.{by-test, either}
+use Rattle.flow.specs.Gap.{Triple, first-gap}
 use Rattle.table.specs.Ranges.{range, within, domain-counts, thread-counts, field-range, field-ranges}
 use Rattle.table.specs.declared.Range.{Range}
 use Rattle.table.specs.declared.Thread.{Thread}
@@ -20,10 +22,11 @@ use Rattle.table.proofs.RangeLaws.{within-high}
 use Rattle.reader.specs.declared.Cursor.{Cursor}
 use Rattle.reader.specs.declared.RowsRead.{RowsRead}
 use Rattle.reader.specs.declared.FieldsRead.{FieldsRead}
+use Rattle.reader.specs.declared.ThreadsRead.{ThreadsRead}
 use Rattle.reader.specs.declared.Verdict.{Verdict}
 use Rattle.reader.specs.declared.Verdict.the-variants.{Accepted, Refused, Intransitive}
 use Rattle.reader.specs.declared.Reading.{Reading}
-use Rattle.reader.specs.Reader.{Read, told, read-of, good, number-from, judged, ranged, row-from, put-row, rows-from, free, field-from, put-field, fields-from, put-thread, threads-from, after-rows, version-from, domains-from, count-from, reading}
+use Rattle.reader.specs.Reader.{Read, told, read-of, good, number-from, judged, ranged, row-from, put-row, rows-from, free, field-from, put-field, fields-from, put-thread, threads-from, no-table, ended, whole-or-gap, after-rows, version-from, domains-from, count-from, reading}
 
 -- One turn of each loop.
 pub rows-next : (s : List ℕ) (d : ℕ) (c : Cursor) (i : ℕ) (k k' : Cursor) (rows : List ℕ) →
@@ -107,6 +110,39 @@ fields-small s d ths i c h =
     let la = field-le s d ths i (at 0 .fields) 0 (at 0 .cursor) in
     let lb = field-le s d ths i (at 1 .fields) 1 (at 1 .cursor) in
     (rw (field-at s d ths i c 0 7 (omega arith) (omega arith)) (omega (arith, la)), rw (field-at s d ths i c 1 7 (omega arith) (omega arith)) (omega (arith, lb)))
+
+-- The table of a refused reading is all zero.
+abbrev Zero : Read → Type 0
+Zero r = 0 < r .told .number → r .table ≡ no-table
+
+refused-ended : (s : List ℕ) (d n : ℕ) (rows : List ℕ) (t : ThreadsRead) → 0 < ended s d n rows t .told .number → ended s d n rows t .table ≡ no-table
+unfolding ended
+refused-ended s d n rows t =
+    either Zero (eqb (t .cursor .refusal) 0)
+    (λ e. either Zero (ltb (t .cursor .next) (length s)) (λ f h. refl) (λ f h. absurd (omega arith))) (λ e h. refl)
+
+refused-gap : (place : ℕ) (g : Sought Triple) (r : Read) → Zero r → Zero (whole-or-gap place g r)
+refused-gap place nothing r z = z
+refused-gap place (found g) r z = λ h. refl
+
+pub refused-zero : (s : List ℕ) → 0 < reading s .told .number → reading s .table ≡ no-table
+unfolding reading after-rows
+refused-zero s =
+    either Zero (eqb (rows .cursor .refusal) 0)
+    (λ e. refused-gap (rows .cursor .start) (first-gap (rows .rows) d) (ended s d n (rows .rows) threads) (refused-ended s d n (rows .rows) threads))
+    (λ e h. refl)
+  where
+    d : ℕ
+    d = domains-from s .value
+
+    n : ℕ
+    n = count-from s .value
+
+    rows : RowsRead
+    rows = rows-from s d (count-from s) d
+
+    threads : ThreadsRead
+    threads = threads-from s d (rows .cursor) n
 
 -- A verdict has one reading.
 pub told-injective : (v w : Verdict) → told v ≡ told w → v ≡ w

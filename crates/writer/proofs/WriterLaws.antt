@@ -1,5 +1,5 @@
--- Writing: runs of bytes put one after the other join into one run, and the answer of `write` and its buffer are unique.
-use Prim.Native.Nat.{ℕ, suc, _+_, _≤_, _<_}
+-- Writing: runs of bytes put one after the other join into one run, bytes outside it stay, and the answer of `write` and its buffer are unique.
+use Prim.Native.Nat.{ℕ, suc, _+_, _-_, _≤_, _<_}
 use mathlib.Core.Path.{_≡_, refl, ap, sym, _∙_}
 use mathlib.Core.Bool.{true, false}
 use mathlib.Core.List.{List, [], _∷_, _++_, append-assoc}
@@ -7,12 +7,14 @@ use native.Mathlib.Omega.{arith}
 use native.Mathlib.Numerals.{add-one}
 use native.Mathlib.Nat.{add-zero}
 use native.Mathlib.Decide.{le-ind}
-use lib.ListN.{length, getD, set, take, length-append}
-use lib.Seq.{sets, sets-eq, length-sets, take-suc, take-all}
-use borrow.Author.Tests.{le-leb, lt-leb}
+use lib.ListN.{length, getD, set, take, drop, length-append, length-drop, List·getD-append}
+use lib.Seq.{sets, sets-eq, length-sets, take-suc, take-all, length-take-le, take-at, drop-at, getD-take, getD-drop, getD-append-add}
+use lib.Dec.{leb}
+use borrow.Author.Tests.{le-leb, lt-leb, leb-true}
 use Rattle.basis.specs.Tests.{pick}
 use Rattle.basis.specs.Search.{listed}
 use Rattle.basis.specs.Told.{Told, answered, refused}
+use Rattle.basis.proofs.TestLaws.{by-test}
 use Rattle.table.specs.Threads.{none, fields}
 use Rattle.table.specs.Legal.{legal}
 use Rattle.table.specs.declared.Table.{Table}
@@ -22,7 +24,7 @@ use Rattle.writer.specs.declared.Writing.the-variants.{Written, NotLegal
 use Rattle.numeral.specs.Number.{encode, encode-all}
 use Rattle.writer.specs.Format.{row-numbers, thread-numbers, numbers, bytes}
 use Rattle.writer.specs.Buffer.{Room, Put}
-use Rattle.writer.specs.Writer.{overlaid, writing, written, told}
+use Rattle.writer.specs.Writer.{overlaid, writing, written, told, Laid}
 use Rattle.numeral.proofs.NumberLaws.{encode-one, encode-all-append, encode-all-last}
 
 -- Two runs put one after the other are one.
@@ -152,6 +154,47 @@ module _ (b : List ℕ) (at : ℕ) (t : Table) where
   told-done e h f =
       let l = le-leb (at + length (bytes t)) (length b) h in
       (rw (e, l, f .end), rw (e, l) (put-overlaid f h))
+
+-- What is overlaid stands there, and every byte outside it stays.
+pub overlaid-laid : (b : List ℕ) (at : ℕ) (xs : List ℕ) → at + length xs ≤ length b → Laid b at (at + length xs) xs (overlaid b at xs)
+unfolding overlaid
+overlaid-laid b at xs h =
+    let l : length (take at b) ≡ at = length-take-le at b (omega arith) in
+    let m : length (take at b ++ xs) ≡ at + length xs = length-append (take at b) xs ∙ rw l in
+    let rest : List ℕ = drop (at + length xs) b in
+    record {
+      part = rw (take-at (take at b ++ xs) rest (at + length xs) m) (drop-at (take at b) xs at l);
+      before = λ i k.
+          List·getD-append (take at b ++ xs) rest 0 i (omega (arith, m)) ∙ List·getD-append (take at b) xs 0 i (rw l k) ∙ getD-take at b i 0 k;
+      behind = λ i k.
+          let q : length (take at b ++ xs) + (i - (at + length xs)) ≡ i = omega (arith, m) in
+          let r : at + length xs + (i - (at + length xs)) ≡ i = omega arith in
+          (rw q at (getD-append-add (take at b ++ xs) rest (i - (at + length xs)) 0)) ∙ getD-drop (at + length xs) b (i - (at + length xs)) 0 ∙ rw r;
+      long = length-append (take at b ++ xs) rest ∙ omega (arith, m, length-drop (at + length xs) b);
+    }
+
+-- An answered writing left the bytes of its table from its place up to the place told, and all other bytes as they were.
+pub written-laid : (b : List ℕ) (at : ℕ) (t : Table) (next : ℕ) → writing b at t ≡ answered (next ∷ []) → Laid b at next (bytes t) (written b at t)
+unfolding writing written pick
+written-laid b at t next e =
+    by-test (legal t)
+    (λ l. by-test (leb (at + length (bytes t)) (length b))
+    (λ m. let f : answered ((at + length (bytes t)) ∷ []) ≡ answered (next ∷ []) = rw (l, m) at e in
+    let v = ap (λ (w : Told). w .values) f in
+    let q : at + length (bytes t) ≡ next = cc in
+    rw (l, m, ← q) (overlaid-laid b at (bytes t) (leb-true _ _ m)))
+    (λ m. wrong 16 next (omega arith) (rw (l, m) at e)))
+    (λ l. wrong 11 next (omega arith) (rw l at e))
+  where
+    wrong : {A : Type 0} (w next : ℕ) → 0 < w → refused w ≡ answered (next ∷ []) → A
+    wrong w next h f = let q : w ≡ 0 = ap (λ (x : Told). x .number) f in absurd (omega arith)
+
+-- A refused writing left every byte as it was.
+pub refused-stays : (b : List ℕ) (at : ℕ) (t : Table) → 0 < writing b at t .number → written b at t ≡ b
+unfolding writing written pick
+refused-stays b at t h =
+    by-test (legal t)
+    (λ l. by-test (leb (at + length (bytes t)) (length b)) (λ m. let z : 0 < 0 = rw (l, m) at h in absurd (omega arith)) (λ m. rw (l, m))) (λ l. rw l)
 
 -- The answer of the code has one reading.
 pub told-injective : (a b : Writing) → told a ≡ told b → a ≡ b

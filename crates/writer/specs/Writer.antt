@@ -1,8 +1,8 @@
 -- Writing a table into a lent buffer from a place on.
-use Prim.Native.Nat.{ℕ, _+_, _≤_}
+use Prim.Native.Nat.{ℕ, _+_, _≤_, _<_}
 use mathlib.Core.Path.{_≡_}
 use mathlib.Core.List.{List, [], _∷_, _++_}
-use lib.ListN.{length, take, drop}
+use lib.ListN.{length, getD, take, drop}
 use lib.Dec.{leb}
 use Rattle.basis.specs.Tests.{pick, and}
 use Rattle.basis.specs.Told.{Told, answered, refused}
@@ -30,3 +30,10 @@ abbrev pub told : Writing → Told
 told (Written next) = answered (next ∷ [])
 told NotLegal = refused 11
 told NoRoom = refused 16
+
+-- The plain reading of a buffer b that then holds c: xs stand from a place up to next, and every byte outside them stays.
+pub record Laid (b : List ℕ) (at next : ℕ) (xs c : List ℕ) : Type 0 where
+  pub part : drop at (take next c) ≡ xs
+  pub before : (i : ℕ) → i < at → getD c i 0 ≡ getD b i 0
+  pub behind : (i : ℕ) → next ≤ i → getD c i 0 ≡ getD b i 0
+  pub long : length c ≡ length b
