@@ -18,7 +18,13 @@ use Rattle.numeral.specs.Number.{told as number-told}
 use Rattle.writer.specs.Format.{row-numbers, thread-numbers, numbers, bytes}
 use Rattle.writer.specs.Writer.{overlaid, writing, written}
 use Rattle.reader.specs.Reader.{number-from, judged, ranged, row-from, rows-from, free, field-from, fields-from, threads-from, ended, after-rows, version-from, domains-from, count-from, reading}
-use Rattle.known.specs.Example.{example, row-too-many, example-bytes, written-out}
+use Rattle.scheduler.specs.State.{fresh, place-fits, fits}
+use Rattle.scheduler.specs.Order.{better, top, down, order}
+use Rattle.scheduler.specs.Step.{at-phase, released, release, pay, finish, heard, runs, count, decided, visit, walk, tick, ticked, advance, step}
+use Rattle.scheduler.specs.Taken.{rested, taken as step-taken}
+use Rattle.scheduler.specs.Shown.{visible, view, showing}
+use Rattle.known.specs.Example.{example, example-bytes, lower, row-too-many, two, upper, written-out}
+use Rattle.known.specs.Runs.{ran, idle-for, idle, run, answers, shown-to, short-deadlines}
 
 -- A statement of document 01: what the definitions compute, and what was found by hand.
 pub record Entry : Type 0 where
@@ -48,6 +54,13 @@ marks-told t = flat (marking t) ++ map (λ (m : Bool). pick m 1 0) (marks-given 
 -- What `write` tells of a table in a buffer from a place on, and then what the buffer holds.
 abbrev write-told : List ℕ → ℕ → Table → List ℕ
 write-told b at t = flat (writing b at t) ++ written b at t
+
+-- Thread 0 runs, waits twice, finishes, and then sends 1; and what E answers.
+abbrev waiting : List ℕ
+waiting = 1 ∷ 0 ∷ 0 ∷ 2 ∷ replicate 6 1
+
+abbrev waited : List ℕ
+waited = ran 0 ∷ idle-for 0 ∷ idle-for 0 ∷ idle-for 0 ∷ ran 1 ∷ ran 1 ∷ ran 1 ∷ replicate 3 idle
 
 abbrev known : List Entry
 known =
@@ -122,9 +135,27 @@ known =
     -- K-8: rows 3, 6, 4 give 7 with 0, 1, 2; rows 7, 6, 4 pass
     ∷ record { computed = gap-of 3 6 4; by-hand = 7 ∷ 0 ∷ 1 ∷ 2 ∷ [] }
     ∷ record { computed = gap-of 7 6 4; by-hand = 0 ∷ [] }
+    -- K-2: E's ten answers
+    ∷ record { computed = answers example waiting; by-hand = waited }
+    -- K-3: E with thread 0 sending 1 always, and domain 0 is shown what it is shown in K-2
+    ∷ record {
+      computed = answers example (replicate 10 1);
+      by-hand = replicate 4 (ran 0) ++ (replicate 3 (ran 1) ++ replicate 3 idle);
+    }
+    ∷ record { computed = shown-to example 0 waiting; by-hand = replicate 4 idle ++ (replicate 3 (ran 1) ++ replicate 3 idle) }
+    ∷ record { computed = shown-to example 0 (replicate 10 1); by-hand = replicate 4 idle ++ (replicate 3 (ran 1) ++ replicate 3 idle) }
+    -- K-4: E with row 1 as 3 has no marks
+    ∷ record {
+      computed = answers (two 3 3 upper lower) waiting;
+      by-hand = ran 0 ∷ ran 1 ∷ ran 1 ∷ ran 1 ∷ replicate 6 idle;
+    }
+    -- K-9: thread 1 loses its last step
+    ∷ record { computed = answers short-deadlines (replicate 4 1); by-hand = ran 0 ∷ ran 1 ∷ ran 1 ∷ idle ∷ [] }
+    -- K-10: step bytes 3 and 255 act as 0
+    ∷ record { computed = answers example (1 ∷ 3 ∷ 255 ∷ 2 ∷ replicate 6 1); by-hand = waited }
     ∷ []
 
 -- The one claim.
 pub all-known : map (λ (e : Entry). e .computed) known ≡ map (λ (e : Entry). e .by-hand) known
-unfolding pick every some first listed flows row-ok broken gap-at gap-by-c gap-by-b first-gap within field-ranges field-range row-legal field-ok thread-ok field-zero thread-zero taken place-legal legal seen-by hidden-below marked marks-of marking marks-given third second number number-at encode encode-all row-numbers thread-numbers numbers bytes overlaid writing written number-from judged ranged row-from rows-from free field-from fields-from threads-from ended after-rows version-from domains-from count-from reading
+unfolding pick every some first listed flows row-ok broken gap-at gap-by-c gap-by-b first-gap within field-ranges field-range row-legal field-ok thread-ok field-zero thread-zero taken place-legal legal seen-by hidden-below marked marks-of marking marks-given third second number number-at encode encode-all row-numbers thread-numbers numbers bytes overlaid writing written number-from judged ranged row-from rows-from free field-from fields-from threads-from ended after-rows version-from domains-from count-from reading fresh place-fits fits better top down order at-phase released release pay finish heard runs count decided visit walk tick ticked advance step rested step-taken visible view showing run
 all-known = refl

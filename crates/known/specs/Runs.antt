@@ -32,7 +32,7 @@ as-number (IdleFor i) = idle-for i
 as-number Idle = idle
 
 -- The answers of a run of steps, in turn.
-abbrev run : Table → List (List ℕ) → State → List Answer
+unfoldable pub run : Table → List (List ℕ) → State → List Answer
 run t [] s = []
 run t (bs ∷ more) s = step t bs s .answer ∷ run t more (step t bs s .state)
 
