@@ -9,6 +9,10 @@ use Rattle.table.specs.declared.Thread.{Thread}
 abbrev pub upper : Thread
 upper = record { domain = 1; priority = 30; period = 10; offset = 0; budget = 4; deadline = 10; blocking = 2 }
 
+-- The same with an offset of 3.
+abbrev pub later : Thread
+later = record { domain = 1; priority = 30; period = 10; offset = 3; budget = 4; deadline = 10; blocking = 2 }
+
 abbrev pub lower : Thread
 lower = record { domain = 0; priority = 20; period = 10; offset = 0; budget = 3; deadline = 10; blocking = 0 }
 

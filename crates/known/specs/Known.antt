@@ -23,8 +23,8 @@ use Rattle.scheduler.specs.Order.{better, top, down, order}
 use Rattle.scheduler.specs.Step.{at-phase, released, release, pay, finish, heard, runs, count, decided, visit, walk, tick, ticked, advance, step}
 use Rattle.scheduler.specs.Taken.{rested, taken as step-taken}
 use Rattle.scheduler.specs.Shown.{visible, view, showing}
-use Rattle.known.specs.Example.{example, example-bytes, lower, row-too-many, two, upper, written-out}
-use Rattle.known.specs.Runs.{ran, idle-for, idle, run, answers, shown-to, short-deadlines}
+use Rattle.known.specs.Example.{example, example-bytes, later, lower, row-too-many, two, upper, written-out}
+use Rattle.known.specs.Runs.{ran, idle-for, idle, run, answers-from, answers, after, left-after, resting, shown-to, short-deadlines}
 
 -- A statement of document 01: what the definitions compute, and what was found by hand.
 pub record Entry : Type 0 where
@@ -153,9 +153,23 @@ known =
     ∷ record { computed = answers short-deadlines (replicate 4 1); by-hand = ran 0 ∷ ran 1 ∷ ran 1 ∷ idle ∷ [] }
     -- K-10: step bytes 3 and 255 act as 0
     ∷ record { computed = answers example (1 ∷ 3 ∷ 255 ∷ 2 ∷ replicate 6 1); by-hand = waited }
+    -- a finish with a rest left: thread 0 waits until its next release, which clears the mark; and what is left after 4 and 12 steps
+    ∷ record {
+      computed = answers example (1 ∷ 2 ∷ replicate 10 1);
+      by-hand = ran 0 ∷ replicate 3 (idle-for 0) ++ (replicate 3 (ran 1) ++ (replicate 3 idle ++ replicate 2 (ran 0)));
+    }
+    ∷ record { computed = left-after example (1 ∷ 2 ∷ 1 ∷ 1 ∷ []); by-hand = 0 ∷ 1 ∷ 1 ∷ 3 ∷ 0 ∷ 0 ∷ [] }
+    ∷ record { computed = left-after example (1 ∷ 2 ∷ replicate 10 1); by-hand = 2 ∷ 0 ∷ 3 ∷ 3 ∷ 0 ∷ 3 ∷ [] }
+    -- without marks a thread that waits pays all the same
+    ∷ record {
+      computed = answers (two 3 3 upper lower) (1 ∷ 0 ∷ 1 ∷ 1 ∷ 1 ∷ []);
+      by-hand = ran 0 ∷ ran 1 ∷ ran 0 ∷ ran 0 ∷ ran 1 ∷ [];
+    }
+    -- before its offset of 3 nothing happens to thread 0, whose rest of 2 is there to be spent
+    ∷ record { computed = answers-from resting (two 3 2 later lower) (replicate 5 1); by-hand = ran 0 ∷ ran 0 ∷ ran 1 ∷ ran 0 ∷ ran 0 ∷ [] }
     ∷ []
 
 -- The one claim.
 pub all-known : map (λ (e : Entry). e .computed) known ≡ map (λ (e : Entry). e .by-hand) known
-unfolding pick every some first listed flows row-ok broken gap-at gap-by-c gap-by-b first-gap within field-ranges field-range row-legal field-ok thread-ok field-zero thread-zero taken place-legal legal seen-by hidden-below marked marks-of marking marks-given third second number number-at encode encode-all row-numbers thread-numbers numbers bytes overlaid writing written number-from judged ranged row-from rows-from free field-from fields-from threads-from ended after-rows version-from domains-from count-from reading fresh place-fits fits better top down order at-phase released release pay finish heard runs count decided visit walk tick ticked advance step rested step-taken visible view showing run
+unfolding pick every some first listed flows row-ok broken gap-at gap-by-c gap-by-b first-gap within field-ranges field-range row-legal field-ok thread-ok field-zero thread-zero taken place-legal legal seen-by hidden-below marked marks-of marking marks-given third second number number-at encode encode-all row-numbers thread-numbers numbers bytes overlaid writing written number-from judged ranged row-from rows-from free field-from fields-from threads-from ended after-rows version-from domains-from count-from reading fresh place-fits fits better top down order at-phase released release pay finish heard runs count decided visit walk tick ticked advance step rested step-taken visible view showing run after
 all-known = refl

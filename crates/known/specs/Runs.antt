@@ -1,10 +1,13 @@
 -- Runs of example E and of a second table from a fresh start, and how their answers are written as numbers.
 use Prim.Native.Nat.{ℕ, _+_}
-use mathlib.Core.List.{List, [], _∷_, map}
+use mathlib.Core.Bool.{false}
+use mathlib.Core.List.{List, [], _∷_, _++_, map}
 use lib.ListN.{replicate}
 use Rattle.table.specs.Threads.{none}
 use Rattle.table.specs.declared.Table.{Table}
-use Rattle.scheduler.specs.State.{fresh}
+use Rattle.basis.specs.Tests.{pick}
+use Rattle.scheduler.specs.State.{progress, put, fresh}
+use Rattle.scheduler.specs.declared.Progress.{Progress}
 use Rattle.scheduler.specs.Step.{step}
 use Rattle.scheduler.specs.Shown.{view}
 use Rattle.scheduler.specs.declared.State.{State}
@@ -36,9 +39,27 @@ unfoldable pub run : Table → List (List ℕ) → State → List Answer
 run t [] s = []
 run t (bs ∷ more) s = step t bs s .answer ∷ run t more (step t bs s .state)
 
--- The answers from a fresh start.
+-- The answers from a state, and from a fresh start.
+abbrev pub answers-from : State → Table → List ℕ → List ℕ
+answers-from s t bs = map as-number (run t (sent bs) s)
+
 abbrev pub answers : Table → List ℕ → List ℕ
-answers t bs = map as-number (run t (sent bs) fresh)
+answers t bs = answers-from fresh t bs
+
+-- The state after these steps from a fresh start, by the rest, the mark and the count of threads 0 and 1.
+unfoldable pub after : Table → List (List ℕ) → State → State
+after t [] s = s
+after t (bs ∷ more) s = after t more (step t bs s .state)
+
+abbrev written : Progress → List ℕ
+written p = p .rest ∷ pick (p .finished) 1 0 ∷ p .ran ∷ []
+
+abbrev pub left-after : Table → List ℕ → List ℕ
+left-after t bs = written (progress (after t (sent bs) fresh) 0) ++ written (progress (after t (sent bs) fresh) 1)
+
+-- A fresh state but for thread 0, which has a rest of 2.
+abbrev pub resting : State
+resting = put fresh 0 (record { rest = 2; finished = false; ran = 0 })
 
 -- What a domain is shown at each step: a thread, or idle for a gap.
 abbrev first-value : List ℕ → ℕ
