@@ -109,10 +109,10 @@ abbrev twice : List Told → List (List Told)
 twice x = x ∷ x ∷ []
 
 -- It is shown a gap, or thread i.
-abbrev gap : Told
+abbrev pub gap : Told
 gap = answered []
 
-abbrev shown : ℕ → Told
+abbrev pub shown : ℕ → Told
 shown i = answered (i ∷ [])
 
 -- Three steps of two threads: thread 0 runs, or waits, and thread 1 runs.

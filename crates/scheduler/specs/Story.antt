@@ -1,10 +1,10 @@
 -- Three parties on one bench, ten steps of 1 ms a period: the pitch loop, the actuator model below it, and above both a load monitor
 -- that is private. It runs at clock 0 and then waits; a bench that hands its time down starts the pitch loop at clock 1, ours at 4.
-use Prim.Native.Nat.{ℕ}
+use Prim.Native.Nat.{ℕ, _-_}
 use mathlib.Core.Path.{_≡_, refl}
-use mathlib.Core.List.{List, [], _∷_, map}
+use mathlib.Core.List.{List, [], _∷_, _++_, map}
 use mathlib.Core.Bool.{true, false}
-use lib.ListN.{length, replicate, take}
+use lib.ListN.{replicate, take}
 use Rattle.basis.specs.Told.{Told, answered}
 use Rattle.table.specs.Threads.{none}
 use Rattle.table.specs.Legal.{legal}
@@ -12,7 +12,7 @@ use Rattle.table.specs.Mark.{marks-of}
 use Rattle.table.specs.declared.Table.{Table}
 use Rattle.scheduler.specs.State.{fresh}
 use Rattle.scheduler.specs.Taken.{Taken, values, taken}
-use Rattle.scheduler.specs.Lessons.{Call, run, trace, call, marking, no-marks}
+use Rattle.scheduler.specs.Lessons.{Call, run, trace, call, marking, no-marks, gap, shown}
 use Rattle.scheduler.specs.declared.Answer.{Answer}
 use Rattle.scheduler.specs.declared.Answer.the-variants.{Ran, IdleFor, Idle}
 
@@ -49,12 +49,16 @@ once = 1 ∷ replicate 9 0
 abbrev pub always : List ℕ
 always = replicate 10 1
 
--- What a run with these bytes of the monitor answers, and when the pitch loop's domain is shown its thread: 1 for that, 0 for a gap.
+-- What a run with these bytes of the monitor answers, and what the pitch loop's domain is told of it.
 abbrev answers : Call → List ℕ → List Told
 answers f xs = map (λ (r : Taken). r .told) (run (f bench) (monitor-sends xs) fresh)
 
-abbrev starts : Call → List ℕ → List ℕ
-starts f xs = map (λ (r : Told). length (r .values)) (trace f bench 0 (monitor-sends xs))
+abbrev pitch-told : Call → List ℕ → List Told
+pitch-told f xs = trace f bench 0 (monitor-sends xs)
+
+-- It is shown its own thread three times, from clock n on.
+abbrev from-clock : ℕ → List Told
+from-clock n = (replicate n gap ++ replicate 3 (shown 0)) ++ replicate (7 - n) gap
 
 abbrev told : List Answer → List Told
 told = map (λ (a : Answer). answered (values a))
@@ -69,16 +73,13 @@ pub handed-down : answers (call (marking no-marks)) once ≡ told (Ran 2 ∷ Ran
 unfolding trace call marking no-marks
 handed-down = refl
 
--- The pitch loop's domain is shown its thread from clock 4 to 6, whatever the monitor sends (`StoryIsolated`).
-pub pitch-ours : starts taken once ∷ starts taken always ∷ []
-    ≡ (0 ∷ 0 ∷ 0 ∷ 0 ∷ 1 ∷ 1 ∷ 1 ∷ 0 ∷ 0 ∷ 0 ∷ [])
-    ∷ (0 ∷ 0 ∷ 0 ∷ 0 ∷ 1 ∷ 1 ∷ 1 ∷ 0 ∷ 0 ∷ 0 ∷ []) ∷ []
+-- The pitch loop's domain is told the same whether the monitor waits or not; so it is whatever the monitor sends (`StoryIsolated`).
+pub pitch-ours : pitch-told taken once ∷ pitch-told taken always ∷ [] ≡ from-clock 4 ∷ from-clock 4 ∷ []
 unfolding trace
 pitch-ours = refl
 
--- Handed down, it sees from its clock that the monitor waits.
-pub pitch-handed-down : starts (call (marking no-marks)) once ∷ starts (call (marking no-marks)) always ∷ []
-    ≡ (0 ∷ 1 ∷ 1 ∷ 1 ∷ 0 ∷ 0 ∷ 0 ∷ 0 ∷ 0 ∷ 0 ∷ [])
-    ∷ (0 ∷ 0 ∷ 0 ∷ 0 ∷ 1 ∷ 1 ∷ 1 ∷ 0 ∷ 0 ∷ 0 ∷ []) ∷ []
+-- Handed down, its clock tells it that the monitor waits.
+pub pitch-handed-down : pitch-told (call (marking no-marks)) once ∷ pitch-told (call (marking no-marks)) always ∷ []
+    ≡ from-clock 1 ∷ from-clock 4 ∷ []
 unfolding trace call marking no-marks
 pitch-handed-down = refl
