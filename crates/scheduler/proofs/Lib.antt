@@ -10,3 +10,4 @@ pub mod IsolatedAlike
 pub mod IsolatedWalk
 pub mod Isolation
 pub mod IsolatedKnown
+pub mod StoryIsolated

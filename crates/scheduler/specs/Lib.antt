@@ -8,3 +8,5 @@ pub mod Heard
 pub mod Paid
 pub mod Shown
 pub mod Isolated
+pub mod Lessons
+pub mod Story

@@ -1,0 +1,362 @@
+-- Demand 3 for a class: one rule is changed, and a domain learns what it must not. In each lesson two runs differ in the bytes of
+-- threads hidden from a domain only, and the claims compute what that domain is told of each step.
+use Prim.Native.Nat.{ℕ, zero, suc, _+_, _-_}
+use mathlib.Core.Path.{_≡_, refl}
+use mathlib.Core.List.{List, [], _∷_, _++_, map}
+use mathlib.Core.Bool.{Bool, true, false, not}
+use lib.ListN.{length, getD, replicate}
+use lib.Dec.{eqb, ltb}
+use Rattle.basis.specs.Tests.{pick, and, or, every, some}
+use Rattle.basis.specs.Search.{Sought, nothing, found, first, listed}
+use Rattle.basis.specs.Told.{Told, answered, refused}
+use Rattle.flow.specs.Flow.{flows, row-ok}
+use Rattle.flow.specs.Gap.{broken, gap-at, gap-by-c, gap-by-b, first-gap}
+use Rattle.table.specs.Threads.{none, thread}
+use Rattle.table.specs.Ranges.{within, field-ranges, field-range}
+use Rattle.table.specs.Legal.{row-legal, field-ok, thread-ok, field-zero, thread-zero, place-legal, legal}
+use Rattle.table.specs.Legal.{taken as priority-taken}
+use Rattle.table.specs.Mark.{seen-by, hidden-below, marked, marks-of}
+use Rattle.table.specs.declared.Table.{Table}
+use Rattle.table.specs.declared.Thread.{Thread}
+use Rattle.scheduler.specs.State.{progress, put, place-fits, fits, fresh}
+use Rattle.scheduler.specs.Order.{better, top, down, order}
+use Rattle.scheduler.specs.Step.{at-phase, released, release, pay, finish, heard, runs, count, walked, decided, visit, chosen, walk, tick, ticked, advance, step}
+use Rattle.scheduler.specs.Taken.{Taken, took, refused-step, rested, taken}
+use Rattle.scheduler.specs.Paid.{releases}
+use Rattle.scheduler.specs.Shown.{visible, view}
+use Rattle.scheduler.specs.Isolated.{answer-of}
+use Rattle.scheduler.specs.declared.Progress.{Progress}
+use Rattle.scheduler.specs.declared.State.{State}
+use Rattle.scheduler.specs.declared.Answer.{Answer}
+use Rattle.scheduler.specs.declared.Answer.the-variants.{Ran, IdleFor, Idle}
+use Rattle.scheduler.specs.declared.Walked.{Walked}
+
+-- What a call of the step gives, by the right rules (`taken`) or by others.
+abbrev pub Call : Type 0
+Call = Table → List ℕ → State → Taken
+
+-- What each call gives, in turn.
+unfoldable pub run : (List ℕ → State → Taken) → List (List ℕ) → State → List Taken
+run f [] s = []
+run f (bs ∷ more) s = f bs s ∷ run f more (f bs s .state)
+
+-- What d is told of a call: the number that refuses it, or what d is shown of its answer.
+unfoldable pub tells : Table → ℕ → Told → Told
+tells t d r = pick (eqb (r .number) 0) (view t d (answer-of (r .values))) r
+
+-- What d is told of each call of a run from a fresh start. To open it is to open all that a run computes with.
+unfoldable pub trace : Call → Table → ℕ → List (List ℕ) → List Told
+unfolding pick every some first listed flows row-ok broken gap-at gap-by-c gap-by-b first-gap within field-ranges field-range row-legal field-ok thread-ok field-zero thread-zero priority-taken place-legal legal seen-by hidden-below marked marks-of place-fits fits fresh better top down order at-phase released release pay finish heard runs count decided visit walk tick ticked advance step rested taken releases visible view answer-of run tells
+trace f t d a = map (λ (r : Taken). tells t d (r .told)) (run (f t) a fresh)
+
+-- A call with f for the step, of a table that nobody tests: a state that does not fit is refused.
+unfoldable pub call : (Table → List ℕ → State → Walked) → Call
+call f t bs s = pick (fits t s) (took (f t bs s)) (refused-step 12 s)
+
+-- The step with other marks.
+unfoldable pub marking : (Table → List Bool) → Table → List ℕ → State → Walked
+marking m t bs s = advance t (m t) (order t) bs s
+
+-- The walk with v for the visit, and the step with that walk.
+unfoldable pub walk-by : (ℕ → ℕ → State → Walked) → List ℕ → List ℕ → State → Walked
+walk-by v bs [] s = walked Idle s
+walk-by v bs (i ∷ is) s =
+    pick (chosen (v (getD bs i 0) i s .answer)) (v (getD bs i 0) i s) (walk-by v bs is (v (getD bs i 0) i s .state))
+
+unfoldable pub visiting : (List Bool → ℕ → ℕ → State → Walked) → Table → List ℕ → State → Walked
+visiting v t bs s = ticked (walk-by (v (marks-of t)) bs (order t) (release t (t .count) s))
+
+-- With the right visit it is the step.
+walk-same : (m : List Bool) (bs is : List ℕ) (s : State) → walk-by (visit m) bs is s ≡ walk m bs is s
+unfolding walk-by walk
+walk-same m bs [] s = refl
+walk-same m bs (i ∷ is) s = rw (walk-same m bs is)
+
+pub visiting-same : (t : Table) (bs : List ℕ) (s : State) → visiting visit t bs s ≡ step t bs s
+unfolding visiting step advance
+visiting-same t bs s = rw (walk-same (marks-of t))
+
+-- A thread of a domain, with a priority, a period and a budget; its offset is 0 and its deadline the period.
+abbrev task : ℕ → ℕ → ℕ → ℕ → Thread
+task d p period w = record { domain = d; priority = p; period = period; offset = 0; budget = w; deadline = period; blocking = 0 }
+
+-- A table with these rows and threads.
+abbrev table-of : List ℕ → List Thread → Table
+table-of rows ths = record {
+  domains = length rows;
+  count = length ths;
+  rows = rows ++ replicate (16 - length rows) 0;
+  threads = ths ++ replicate (32 - length ths) none;
+}
+
+-- Domain 0 may flow to domain 1, which flows to itself only: a private thread above an open one.
+abbrev private-above : Table
+private-above = table-of (3 ∷ 2 ∷ []) (task 1 30 4 2 ∷ task 0 20 4 1 ∷ [])
+
+-- A lesson: the call with one rule changed, a domain of a table, and two lists of steps that differ in what is hidden from it.
+pub record Lesson : Type 0 where
+  pub changed : Call
+  pub table : Table
+  pub domain : ℕ
+  pub one : List (List ℕ)
+  pub other : List (List ℕ)
+
+-- What the domain is told of the two runs.
+abbrev pub told-by : Call → Lesson → List (List Told)
+told-by f l = trace f (l .table) (l .domain) (l .one) ∷ trace f (l .table) (l .domain) (l .other) ∷ []
+
+abbrev twice : List Told → List (List Told)
+twice x = x ∷ x ∷ []
+
+-- It is shown a gap, or thread i.
+abbrev pub gap : Told
+gap = answered []
+
+abbrev pub shown : ℕ → Told
+shown i = answered (i ∷ [])
+
+-- Three steps of two threads: thread 0 runs, or waits, and thread 1 runs.
+abbrev running : List (List ℕ)
+running = replicate 3 (1 ∷ 1 ∷ [])
+
+abbrev waiting : List (List ℕ)
+waiting = replicate 3 (0 ∷ 1 ∷ [])
+
+-- Domain 0, below, and a private thread that runs or waits.
+abbrev seen-from-below : Call → Lesson
+seen-from-below f = record { changed = f; table = private-above; domain = 0; one = running; other = waiting }
+
+-- a. A pair is missing: domain 0 may flow to 1, and 1 to 2, but 0 not to 2. Thread 0 may flow to thread 1, so it is not marked;
+-- its wait shows in when thread 1 runs, and domain 2 sees thread 1. Such a table is refused: here the rules trust it.
+abbrev pair-missing : Lesson
+pair-missing = record {
+  changed = call step;
+  table = table-of (3 ∷ 6 ∷ 4 ∷ []) (task 0 30 4 2 ∷ task 1 20 4 1 ∷ []);
+  domain = 2;
+  one = running;
+  other = waiting;
+}
+
+pub pair-missing-leaks : told-by (pair-missing .changed) pair-missing ≡ (gap ∷ gap ∷ shown 1 ∷ []) ∷ (shown 1 ∷ gap ∷ gap ∷ []) ∷ []
+unfolding trace call
+pair-missing-leaks = refl
+
+-- b. The mark asks about the next thread down only. Thread 0 is above its own domain's thread 1, so it is not marked; where it
+-- waits, thread 1 pays in the same step, and thread 2 starts a step sooner.
+abbrev barred : Table → ℕ → Sought ℕ → Bool
+barred t i nothing = false
+barred t i (found j) = not (seen-by t i (thread t j .domain))
+
+unfoldable pub next-marks : Table → List Bool
+next-marks t = listed (t .count) (λ i. barred t i (top t (thread t i .priority) (t .count)))
+
+abbrev next-only : Lesson
+next-only = record {
+  changed = call (marking next-marks);
+  table = table-of (3 ∷ 2 ∷ []) (task 1 30 4 1 ∷ task 1 20 4 1 ∷ task 0 10 4 1 ∷ []);
+  domain = 0;
+  one = replicate 3 (1 ∷ 1 ∷ 1 ∷ []);
+  other = replicate 3 (0 ∷ 1 ∷ 1 ∷ []);
+}
+
+pub next-only-leaks : told-by (next-only .changed) next-only ≡ (gap ∷ gap ∷ shown 2 ∷ []) ∷ (gap ∷ shown 2 ∷ gap ∷ []) ∷ []
+unfolding trace call marking next-marks
+next-only-leaks = refl
+
+-- c. The flow is reversed in the mark. Thread 1 may flow to thread 0, so thread 0 is not marked.
+unfoldable pub reversed-marks : Table → List Bool
+reversed-marks t =
+    listed (t .count) (λ i.
+    some (t .count) (λ j. and (ltb (thread t j .priority) (thread t i .priority)) (not (seen-by t j (thread t i .domain)))))
+
+abbrev flow-reversed : Lesson
+flow-reversed = seen-from-below (call (marking reversed-marks))
+
+pub flow-reversed-leaks : told-by (flow-reversed .changed) flow-reversed ≡ (gap ∷ gap ∷ shown 1 ∷ []) ∷ (shown 1 ∷ gap ∷ gap ∷ []) ∷ []
+unfolding trace call marking reversed-marks
+flow-reversed-leaks = refl
+
+-- d. A marked thread that waits does not pay. Waiting, thread 0 holds its budget, and thread 1 never starts.
+abbrev free : State → ℕ → State
+free s i = s
+
+abbrev settled : State → State → State → Answer → Walked
+settled r p q (Ran i) = walked (Ran i) r
+settled r p q (IdleFor i) = walked (IdleFor i) p
+settled r p q Idle = walked Idle q
+
+-- The visit, but a thread that waits pays by f if marked, and by g if not.
+unfoldable pub paying : (State → ℕ → State) → (State → ℕ → State) → List Bool → ℕ → ℕ → State → Walked
+paying f g m b i s =
+    let w : Walked = decided m b i (heard b i (pay s i)) in
+    pick (eqb (progress s i .rest) 0) (walked Idle s) (settled (w .state) (heard b i (f s i)) (heard b i (g s i)) (w .answer))
+
+-- Where both pay, it is the visit.
+settled-same : (x y : Bool) (i : ℕ) (r q : State)
+    → let w : Walked = pick x (walked (Ran i) r) (pick y (walked (IdleFor i) q) (walked Idle q)) in
+    settled (w .state) q q (w .answer) ≡ w
+unfolding pick
+settled-same true y i r q = refl
+settled-same false true i r q = refl
+settled-same false false i r q = refl
+
+pub paying-same : (m : List Bool) (b i : ℕ) (s : State) → paying pay pay m b i s ≡ visit m b i s
+unfolding paying visit decided
+paying-same m b i s = rw (settled-same (runs b (progress (heard b i (pay s i)) i)) (getD m i false) i)
+
+abbrev unpaid-wait : Lesson
+unpaid-wait = seen-from-below (call (visiting (paying free pay)))
+
+pub unpaid-wait-leaks : told-by (unpaid-wait .changed) unpaid-wait ≡ (gap ∷ gap ∷ shown 1 ∷ []) ∷ (gap ∷ gap ∷ gap ∷ []) ∷ []
+unfolding trace call walk-by visiting paying
+unpaid-wait-leaks = refl
+
+-- The same where the processor idles on nobody's account, so that nobody pays.
+abbrev nobody : Answer → Answer
+nobody (Ran i) = Ran i
+nobody (IdleFor i) = Idle
+nobody Idle = Idle
+
+unfoldable pub on-nobody : (Table → List ℕ → State → Walked) → Table → List ℕ → State → Walked
+on-nobody f t bs s = walked (nobody (f t bs s .answer)) (f t bs s .state)
+
+abbrev nobody-pays : Lesson
+nobody-pays = seen-from-below (call (on-nobody (visiting (paying free pay))))
+
+pub nobody-pays-leaks : told-by (nobody-pays .changed) nobody-pays ≡ (gap ∷ gap ∷ shown 1 ∷ []) ∷ (gap ∷ gap ∷ gap ∷ []) ∷ []
+unfolding trace call walk-by visiting paying on-nobody
+nobody-pays-leaks = refl
+
+-- e. No marks: the time of a thread that waits is handed down, and nobody idles. Not a message is sent; who looks for leaks in
+-- messages only finds none, and yet thread 1's clock tells domain 0 whether thread 0 waits.
+unfoldable pub no-marks : Table → List Bool
+no-marks t = []
+
+abbrev handed-down : Lesson
+handed-down = seen-from-below (call (marking no-marks))
+
+pub handed-down-leaks : told-by (handed-down .changed) handed-down ≡ (gap ∷ gap ∷ shown 1 ∷ []) ∷ (shown 1 ∷ gap ∷ gap ∷ []) ∷ []
+unfolding trace call marking no-marks
+handed-down-leaks = refl
+
+-- f. A release adds W to the rest. Where thread 1 runs, thread 2 keeps its budget of 1 and is given another; a rest of 2 does not fit,
+-- and everyone is refused with 12. (`payments-most` shuts this out as well: a thread pays at most W from release to release.)
+unfoldable pub refill : Table → ℕ → State → State
+refill t zero s = s
+refill t (suc n) s =
+    let p : Progress = progress s n in
+    let full : Progress = record { rest = p .rest + thread t n .budget; finished = false; ran = p .ran } in
+    put (refill t n s) n (pick (releases t n (s .clock)) full (released (thread t n) (s .clock) p))
+
+unfoldable pub refilling : Table → List ℕ → State → Walked
+refilling t bs s = ticked (walk (marks-of t) bs (order t) (refill t (t .count) s))
+
+abbrev added : Lesson
+added = record {
+  changed = call refilling;
+  table = table-of (3 ∷ 2 ∷ []) (task 0 30 2 1 ∷ task 1 20 2 1 ∷ task 1 10 2 1 ∷ []);
+  domain = 0;
+  one = replicate 4 (1 ∷ 1 ∷ 1 ∷ []);
+  other = replicate 4 (1 ∷ 0 ∷ 1 ∷ []);
+}
+
+pub added-leaks : told-by (added .changed) added ≡ (shown 0 ∷ gap ∷ shown 0 ∷ refused 12 ∷ []) ∷ (shown 0 ∷ gap ∷ shown 0 ∷ gap ∷ []) ∷ []
+unfolding trace call refill refilling
+added-leaks = refl
+
+-- g. A strange byte is refused. A private thread then stops everyone (`same-refusal` says that no byte's value does).
+unfoldable pub refusing-strange : Call
+refusing-strange t bs s = pick (some (t .count) (λ i. ltb 2 (getD bs i 0))) (refused-step 13 s) (taken t bs s)
+
+abbrev strange-byte : Lesson
+strange-byte = record {
+  changed = refusing-strange;
+  table = private-above;
+  domain = 0;
+  one = replicate 3 (3 ∷ 1 ∷ []);
+  other = waiting;
+}
+
+pub strange-byte-leaks : told-by (strange-byte .changed) strange-byte
+    ≡ (refused 13 ∷ refused 13 ∷ refused 13 ∷ []) ∷ (gap ∷ gap ∷ shown 1 ∷ []) ∷ []
+unfolding trace refusing-strange
+strange-byte-leaks = refl
+
+-- By the right rules the domain is told the same of both runs; the table with a pair missing is refused.
+abbrev pub leaks : List Lesson
+leaks = pair-missing ∷ next-only ∷ flow-reversed ∷ unpaid-wait ∷ nobody-pays ∷ handed-down ∷ added ∷ strange-byte ∷ []
+
+pub right-rules : map (told-by taken) leaks
+    ≡ map twice
+    ((refused 11 ∷ refused 11 ∷ refused 11 ∷ [])
+    ∷ (gap ∷ gap ∷ shown 2 ∷ [])
+    ∷ (gap ∷ gap ∷ shown 1 ∷ [])
+    ∷ (gap ∷ gap ∷ shown 1 ∷ [])
+    ∷ (gap ∷ gap ∷ shown 1 ∷ [])
+    ∷ (gap ∷ gap ∷ shown 1 ∷ [])
+    ∷ (shown 0 ∷ gap ∷ shown 0 ∷ gap ∷ [])
+    ∷ (gap ∷ gap ∷ shown 1 ∷ [])
+    ∷ [])
+unfolding trace
+right-rules = refl
+
+-- Two changes that demand 3 lets pass: a hidden thread above a visible one is marked, so it pays and ends the walk whatever it
+-- says, and the other hidden threads hold no visible one up. Demand 2 shuts them out, since it fixes each answer and state. It also
+-- shuts out a dropped refill, which no byte moves, and idling on nobody's account where the thread pays, which shows the same gap.
+
+-- A finish is heard from each thread, reached or not; `unheard-nothing` shuts that out too. Thread 1 says finish at the first
+-- step, where thread 0 is chosen, and waits at the third: in both runs.
+unfoldable pub hear-all : List ℕ → ℕ → State → State
+hear-all bs zero s = s
+hear-all bs (suc n) s = heard (getD bs n 0) n (hear-all bs n s)
+
+unfoldable pub hearing-all : Table → List ℕ → State → Walked
+hearing-all t bs s = ticked (walk (marks-of t) bs (order t) (hear-all bs (t .count) (release t (t .count) s)))
+
+abbrev heard-unreached : Lesson
+heard-unreached = record {
+  changed = call hearing-all;
+  table = private-above;
+  domain = 0;
+  one = (1 ∷ 2 ∷ []) ∷ (1 ∷ 1 ∷ []) ∷ (1 ∷ 1 ∷ []) ∷ [];
+  other = (2 ∷ 2 ∷ []) ∷ (1 ∷ 1 ∷ []) ∷ (2 ∷ 1 ∷ []) ∷ [];
+}
+
+pub heard-unreached-passes : told-by (heard-unreached .changed) heard-unreached ≡ twice (gap ∷ gap ∷ gap ∷ [])
+unfolding trace call hear-all hearing-all
+heard-unreached-passes = refl
+
+-- A thread that waits and is not marked does not pay. Thread 0, with a budget of 2, waits one step and runs two: in both runs.
+abbrev free-wait : Lesson
+free-wait = record {
+  changed = call (visiting (paying pay free));
+  table = table-of (3 ∷ 2 ∷ []) (task 0 30 4 2 ∷ task 1 20 4 1 ∷ []);
+  domain = 0;
+  one = (0 ∷ 1 ∷ []) ∷ (1 ∷ 1 ∷ []) ∷ (1 ∷ 1 ∷ []) ∷ [];
+  other = (0 ∷ 0 ∷ []) ∷ (1 ∷ 0 ∷ []) ∷ (1 ∷ 0 ∷ []) ∷ [];
+}
+
+pub free-wait-passes : told-by (free-wait .changed) free-wait ≡ twice (gap ∷ shown 0 ∷ shown 0 ∷ [])
+unfolding trace call walk-by visiting paying
+free-wait-passes = refl
+
+abbrev pub passes : List Lesson
+passes = heard-unreached ∷ free-wait ∷ []
+
+-- What demand 2 wants instead.
+pub right-answers : map (told-by taken) passes ≡ map twice ((gap ∷ gap ∷ shown 1 ∷ []) ∷ (gap ∷ shown 0 ∷ gap ∷ []) ∷ [])
+unfolding trace
+right-answers = refl
+
+-- In every lesson the two runs have the same bytes for each thread that the domain may see.
+unfoldable pub differ-hidden : Table → ℕ → List (List ℕ) → List (List ℕ) → Bool
+unfolding every flows seen-by visible
+differ-hidden t d [] [] = true
+differ-hidden t d [] (cs ∷ vs) = false
+differ-hidden t d (bs ∷ us) [] = false
+differ-hidden t d (bs ∷ us) (cs ∷ vs) =
+    and (eqb (length bs) (length cs)) (and (every 32 (λ i. or (not (visible t d i)) (eqb (getD bs i 0) (getD cs i 0)))) (differ-hidden t d us vs))
+
+pub hidden-only : map (λ (l : Lesson). differ-hidden (l .table) (l .domain) (l .one) (l .other)) (leaks ++ passes) ≡ replicate 10 true
+unfolding differ-hidden
+hidden-only = refl
