@@ -17,13 +17,13 @@ use Rattle.basis.specs.Told.{answered, refused}
 use Rattle.basis.proofs.TestLaws.{either, both}
 use Rattle.basis.proofs.SearchLaws.{length-listed}
 use Rattle.table.specs.Legal.{legal, Legal, Sized}
-use Rattle.table.specs.Mark.{marked, marks-of}
+use Rattle.table.proofs.MarkLaws.{marks-at}
 use Rattle.table.specs.declared.Table.{Table}
 use Rattle.table.proofs.LegalLaws.{legal-sound}
 use Rattle.scheduler.specs.State.{fresh, last-clock, Fits}
 use Rattle.scheduler.specs.Given.{Below}
 use Rattle.scheduler.specs.Order.{order}
-use Rattle.scheduler.specs.Step.{tick, ticked, advance, step}
+use Rattle.scheduler.specs.Step.{tick, ticked, advance, step, step-marks}
 use Rattle.scheduler.specs.Taken.{Taken, values, told, took, refused-step, taken}
 use Rattle.scheduler.specs.Shown.{visible, view, showing, showing-state, seen-threads, threads-shown}
 use Rattle.scheduler.specs.Isolated.{calls, answer-of, telling, shown-of, Same-step, Same-steps, ended, next, Isolated}
@@ -37,20 +37,10 @@ use Rattle.scheduler.proofs.StepLaws.{step-fits, rested-always}
 use Rattle.scheduler.proofs.IsolatedAlike.{Alike, alike-refl, alike-release}
 use Rattle.scheduler.proofs.IsolatedWalk.{Agree, Marks, lockstep}
 
-listed-at : {A : Type 0} (f : ℕ → A) (z : A) (n i : ℕ) → i < n → getD (listed n f) i z ≡ f i
-unfolding listed
-listed-at f z zero i h = absurd (omega arith)
-listed-at f z (suc n) i h =
-    ⊎-elim (λ (q : i ≡ n). rw q (getD-at (listed n f) (f n) [] z n (length-listed n f)))
-    (λ (l : i < n). List·getD-append (listed n f) _ z i (rw (length-listed n f) l) ∙ listed-at f z n i l)
-    (eq-or-lt-of-le (omega arith))
-
 -- The marks that a step hands to its walk are the table's.
-marks-at : (t : Table) → Marks t (marks-of t)
-unfolding marks-of
-marks-at t i h =
-    List·getD-append (listed (t .count) (marked t)) _ false i (rw (length-listed (t .count) (marked t)) h)
-    ∙ listed-at (marked t) false (t .count) i h
+right-marks : (t : Table) → Marks t (step-marks t)
+unfolding step-marks
+right-marks t i h = marks-at t i h
 
 -- An answer is known from its values.
 answer-of-values : (a : Answer) → answer-of (values a) ≡ a
@@ -82,7 +72,7 @@ module _ (t : Table) (l : Legal t) (d : ℕ) (dd : d < t .domains) where
 
   pub step-alike : (bs cs : List ℕ) → Same-step t d bs cs → (s r : State) → Alike t d s r → Agree t d (step t bs s) (step t cs r)
   unfolding step
-  step-alike bs cs h s r a = advance-alike (marks-of t) (marks-at t) (order t) (order-falls t) (order-below t) bs cs h s r a
+  step-alike bs cs h s r a = advance-alike (step-marks t) (right-marks t) (order t) (order-falls t) (order-below t) bs cs h s r a
 
 module _ (t : Table) (ok : legal t ≡ true) where
   -- On a fitting state a call is refused by the number of bytes or the clock, and by nothing else.

@@ -11,7 +11,6 @@ use lib.ListN.{length, getD}
 use lib.Dec.{eqb, ltb}
 use Rattle.basis.proofs.TestLaws.{both-ways, either, and-of, refuted}
 use Rattle.table.specs.Threads.{thread}
-use Rattle.table.specs.Mark.{marks-of}
 use Rattle.table.specs.declared.Table.{Table}
 use Rattle.scheduler.specs.declared.Progress.{Progress}
 use Rattle.scheduler.specs.declared.State.{State}
@@ -19,7 +18,7 @@ use Rattle.scheduler.specs.declared.Walked.{Walked}
 use Rattle.scheduler.specs.State.{progress, Fits}
 use Rattle.scheduler.specs.Given.{Each}
 use Rattle.scheduler.specs.Order.{order}
-use Rattle.scheduler.specs.Step.{at-phase, released, release, pay, finish, heard, count, decided, visit, walk, tick, ticked, advance, step}
+use Rattle.scheduler.specs.Step.{at-phase, released, release, pay, finish, heard, count, decided, visit, walk, tick, ticked, advance, step, step-marks}
 use Rattle.scheduler.specs.Paid.{releases, pays, payments}
 use Rattle.scheduler.proofs.OrderLaws.{order-below, Falling-from, order-falls-from}
 use Rattle.scheduler.proofs.WalkLaws.{put-each, walk-each, release-each}
@@ -31,8 +30,8 @@ pub step-spends : (t : Table) (bs : List ℕ) (s : State) → Spent (release t (
 unfolding step advance ticked tick
 step-spends t bs s =
     let r : State = release t (t .count) s in
-    let w : Spent r (walk (marks-of t) bs (order t) r .state)
-    = walk-each (marks-of t) (t .count) _ (kept-spent (t .count) r) (λ i p. p .rest ≤ progress r i .rest) (λ i p h. h)
+    let w : Spent r (walk (step-marks t) bs (order t) r .state)
+    = walk-each (step-marks t) (t .count) _ (kept-spent (t .count) r) (λ i p. p .rest ≤ progress r i .rest) (λ i p h. h)
     (λ i p l h. h) bs (order t) r (order-below t) (record { at = λ i. le-refl _ }) in
     record { at = w .at }
 
@@ -65,8 +64,8 @@ pub pays-once : (t : Table) (bs : List ℕ) (s : State) (i : ℕ) → pays t bs 
 unfolding pays step advance ticked tick
 pays-once t bs s i =
     let r : State = release t (t .count) s in
-    let w : Each (λ i q. progress r i .rest ≤ q .rest + 1) (walk (marks-of t) bs (order t) r .state)
-    = walk-once t (marks-of t) r 256 bs (order t) r (order-falls-from t) (record { at = λ i. (omega arith, λ u. le-refl _) }) in
+    let w : Each (λ i q. progress r i .rest ≤ q .rest + 1) (walk (step-marks t) bs (order t) r .state)
+    = walk-once t (step-marks t) r 256 bs (order t) r (order-falls-from t) (record { at = λ i. (omega arith, λ u. le-refl _) }) in
     omega (arith, w .at i)
 
 -- A clock that is no release of thread i leaves its rest or takes it away.

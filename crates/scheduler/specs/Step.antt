@@ -98,6 +98,10 @@ ticked w = walked (w .answer) (tick (w .state))
 unfoldable pub advance : Table → List Bool → List ℕ → List ℕ → State → Walked
 advance t m is bs s = ticked (walk m bs is (release t (t .count) s))
 
+-- The marks that a step goes by are the table's.
+unfoldable pub step-marks : Table → List Bool
+step-marks t = marks-of t
+
 -- One step: the walk goes from the highest priority down, step bytes bs in table order.
 unfoldable pub step : Table → List ℕ → State → Walked
-step t bs s = advance t (marks-of t) (order t) bs s
+step t bs s = advance t (step-marks t) (order t) bs s
