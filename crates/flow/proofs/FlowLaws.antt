@@ -5,7 +5,8 @@ use mathlib.Core.List.{List}
 use mathlib.Core.Bool.{Bool, true, false}
 use native.Mathlib.Omega.{arith}
 use native.Mathlib.Decide.{decLt}
-use native.Mathlib.Nat.{div-lt-iff-lt-mul, div-one, le-refl}
+use native.Mathlib.Nat.{div-lt-iff-lt-mul, div-one, le-refl, min-le-left, min-le-right}
+use lib.Bits.{bitAnd, and-step}
 use lib.Pow.{pow-pos, pow-mono, shr-shr}
 use lib.ListN.{length, getD}
 use lib.Dec.{eqb}
@@ -72,3 +73,20 @@ row-of rows d i known own =
   where
     even : (x : ℕ) → (x % 2 ≡ 1 → ⊥) → x % 2 ≡ 0
     even x h = omega arith
+
+half-first : (n k : ℕ) → n / 2 ^ suc k ≡ n / 2 / 2 ^ k
+half-first n k = let e : 1 + k ≡ suc k = omega arith in sym (shr-shr n 1 k ∙ ap (λ (x : ℕ). n / 2 ^ x) e)
+
+-- A number that has every bit of v has its bit k.
+pub covered-bit : (k v w : ℕ) → bitAnd v w ≡ v → v / 2 ^ k % 2 ≡ 1 → w / 2 ^ k % 2 ≡ 1
+covered-bit zero v w e o =
+    let s = and-step v w in
+    let l = min-le-right (v % 2) (w % 2) in
+    let v-odd : v % 2 ≡ 1 = rw (div-one v) at o in
+    let w-odd : w % 2 ≡ 1 = omega arith in
+    rw (div-one w) w-odd
+covered-bit (suc k) v w e o =
+    let s = and-step v w in
+    let l = min-le-left (v % 2) (w % 2) in
+    let half : bitAnd (v / 2) (w / 2) ≡ v / 2 = omega arith in
+    rw (half-first w k) (covered-bit k (v / 2) (w / 2) half (rw (half-first v k) at o))

@@ -11,7 +11,10 @@ use Rattle.basis.specs.Tests.{pick}
 use Rattle.basis.specs.Search.{Sought, nothing, found, first}
 use Rattle.basis.specs.Told.{Told}
 use Rattle.basis.proofs.SearchLaws.{first-nothing, first-found, first-all, Found-at}
-use borrow.Author.Tests.{not-true, not-false}
+use borrow.Author.Tests.{eqb-true, eq-eqb, not-true, not-false}
+use lib.Bits.{bitAnd}
+use lib.Dec.{eqb}
+use Rattle.flow.proofs.FlowLaws.{covered-bit}
 use Rattle.basis.specs.Tests.{and}
 use Rattle.basis.proofs.TestLaws.{refuted, fails, and-both}
 use Rattle.flow.specs.Flow.{flows}
@@ -144,6 +147,23 @@ flows-whole rows n h = record {
       let q = and-both (flows rows b c) _ (p .1) in
       true≢false (sym (h a b c ha hb hc (p .0) (q .0)) ∙ not-true _ (q .1)));
 }
+
+-- Where a does not flow to b, or flows wherever b does, no c breaks transitivity.
+pub apart-whole : (rows : List ℕ) (a b c : ℕ) → flows rows a b ≡ false → broken rows a b c ≡ false
+unfolding broken
+apart-whole rows a b c e = rw e
+
+pub whole-by-c : (rows : List ℕ) (n a b : ℕ) → ((c : ℕ) → broken rows a b c ≡ false) → gap-by-c rows n a b ≡ nothing
+unfolding gap-by-c
+whole-by-c rows n a b h = first-all _ n (λ c _. gap-at-none rows a b c (h c))
+
+pub covered-whole : (rows : List ℕ) (a b c : ℕ) → eqb (bitAnd (getD rows b 0) (getD rows a 0)) (getD rows b 0) ≡ true → broken rows a b c ≡ false
+unfolding broken flows
+covered-whole rows a b c e = fails _ (λ f.
+    let p = and-both (flows rows a b) _ f in
+    let q = and-both (flows rows b c) _ (p .1) in
+    let bit = covered-bit c _ _ (eqb-true _ _ e) (eqb-true _ _ (q .0)) in
+    true≢false (sym (eq-eqb _ _ bit) ∙ not-true _ (q .1)))
 
 -- The first gap is decided by what the rows hold.
 pub gap-same : (rows qs : List ℕ) (n : ℕ) → ((i : ℕ) → getD rows i 0 ≡ getD qs i 0) → first-gap rows n ≡ first-gap qs n

@@ -7,7 +7,7 @@ use mathlib.Core.Bool.{Bool, true, false, not}
 use lib.ListN.{length, getD, replicate}
 use lib.Dec.{eqb, ltb}
 use Rattle.basis.specs.Tests.{pick, and, or, every, some}
-use Rattle.basis.specs.Search.{Sought, nothing, found, first, listed}
+use Rattle.basis.specs.Search.{first, listed}
 use Rattle.basis.specs.Told.{Told, answered, refused}
 use Rattle.flow.specs.Flow.{flows, row-ok}
 use Rattle.flow.specs.Gap.{broken, gap-at, gap-by-c, gap-by-b, first-gap}
@@ -19,7 +19,7 @@ use Rattle.table.specs.Mark.{seen-by, hidden-below, marked, marks-of}
 use Rattle.table.specs.declared.Table.{Table}
 use Rattle.table.specs.declared.Thread.{Thread}
 use Rattle.scheduler.specs.State.{progress, put, place-fits, fits, fresh}
-use Rattle.scheduler.specs.Order.{better, top, down, order}
+use Rattle.scheduler.specs.Order.{holder, down, order}
 use Rattle.scheduler.specs.Step.{at-phase, released, release, pay, finish, heard, runs, count, walked, decided, visit, chosen, walk, tick, ticked, advance, step, step-marks}
 use Rattle.scheduler.specs.Taken.{Taken, took, refused-step, rested, taken}
 use Rattle.scheduler.specs.Paid.{releases}
@@ -46,7 +46,7 @@ tells t d r = pick (eqb (r .number) 0) (view t d (answer-of (r .values))) r
 
 -- What d is told of each call of a run from a fresh start. To open it is to open all that a run computes with.
 unfoldable pub trace : Call → Table → ℕ → List (List ℕ) → List Told
-unfolding pick every some first listed flows row-ok broken gap-at gap-by-c gap-by-b first-gap within field-ranges field-range row-legal field-ok thread-ok field-zero thread-zero priority-taken place-legal legal seen-by hidden-below marked marks-of place-fits fits fresh better top down order at-phase released release pay finish heard runs count decided visit walk tick ticked advance step step-marks rested taken releases visible view answer-of run tells
+unfolding pick every some first listed flows row-ok broken gap-at gap-by-c gap-by-b first-gap within field-ranges field-range row-legal field-ok thread-ok field-zero thread-zero priority-taken place-legal legal seen-by hidden-below marked marks-of place-fits fits fresh holder down order at-phase released release pay finish heard runs count decided visit walk tick ticked advance step step-marks rested taken releases visible view answer-of run tells
 trace f t d a = map (λ (r : Taken). tells t d (r .told)) (run (f t) a fresh)
 
 -- A call with f for the step, of a table that nobody tests: a state that does not fit is refused.
@@ -143,12 +143,12 @@ pair-missing-leaks = refl
 
 -- b. The mark asks about the next thread down only. Thread 0 is above its own domain's thread 1, so it is not marked; where it
 -- waits, thread 1 pays in the same step, and thread 2 starts a step sooner.
-abbrev barred : Table → ℕ → Sought ℕ → Bool
-barred t i nothing = false
-barred t i (found j) = not (seen-by t i (thread t j .domain))
+abbrev barred : Table → ℕ → List ℕ → Bool
+barred t i [] = false
+barred t i (j ∷ js) = not (seen-by t i (thread t j .domain))
 
 unfoldable pub next-marks : Table → List Bool
-next-marks t = listed (t .count) (λ i. barred t i (top t (thread t i .priority) (t .count)))
+next-marks t = listed (t .count) (λ i. barred t i (down t (thread t i .priority)))
 
 abbrev next-only : Lesson
 next-only = record {

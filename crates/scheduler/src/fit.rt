@@ -1,18 +1,21 @@
 // The test that a state fits its table.
 ghost use mathlib.Core.Path.{_≡_};
-ghost use Prim.Native.Nat.{_<_};
-ghost use Rattle.scheduler.specs.State.{place-fits, fits};
+ghost use mathlib.Core.Bool.{not};
+ghost use lib.Dec.{eqb, leb};
+ghost use Rattle.basis.specs.Tests.{pick, and};
+ghost use Rattle.scheduler.specs.State.{fits};
 use super::Progress;
 use super::State;
 use table::Table;
+use table::Thread;
 
-// Whether thread i's progress fits its table at a clock.
-fn place_fits(t: Table, clock: u32, i: u8, p: Progress) -> bool
-    requires { ⌜ i < 32 ⌝ }
-    ensures { λ r. ⌜ r ≡ place-fits t clock i p ⌝ }
+// Whether a progress fits its place at a clock: a thread's, or one that is not in use.
+fn place_fits(th: Thread, used: bool, clock: u32, p: Progress) -> bool
+    ensures { λ r. ⌜ r
+        ≡ pick used (and (leb (p .rest) (th .budget)) (leb (p .ran) clock))
+        (and (eqb (p .rest) 0) (and (not (p .finished)) (eqb (p .ran) 0))) ⌝ }
 {
-    if i < t.count {
-        let th = t.threads[i as usize];
+    if used {
         if th.budget < p.rest {
             return false;
         }
@@ -36,8 +39,9 @@ pub fn fits(t: Table, s: State) -> bool
     }
     let mut i: u8 = 0;
     while i < 32 {
+        let th = t.threads[i as usize];
         let p = s.threads[i as usize];
-        if !place_fits(t, clock, i, p) {
+        if !place_fits(th, i < t.count, clock, p) {
             return false;
         }
         i += 1;

@@ -60,12 +60,6 @@ pub struct Stepped {
     pub state: State,
 }
 
-// The thread of the highest priority below a limit.
-pub enum Top {
-    At(u8),
-    None,
-}
-
 // Thread numbers by falling priority: the first count places.
 pub struct Ranks {
     pub count: u8,

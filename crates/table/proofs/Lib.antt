@@ -1,3 +1,4 @@
 pub mod RangeLaws
+pub mod TakenLaws
 pub mod LegalLaws
 pub mod MarkLaws

@@ -1,7 +1,8 @@
 // The test of a table that is handed in.
 ghost use mathlib.Core.Path.{_≡_};
 ghost use Prim.Native.Nat.{_≤_, _<_};
-ghost use Rattle.basis.specs.Tests.{every};
+ghost use mathlib.Core.Bool.{not};
+ghost use Rattle.basis.specs.Tests.{pick, and, every};
 ghost use Rattle.table.specs.Legal.{row-legal, thread-ok, thread-zero, taken, place-legal, legal};
 use super::Range;
 use super::Table;
@@ -74,28 +75,31 @@ fn rows_are_legal(rows: [u16; 16], domains: u8) -> bool
     true
 }
 
-fn place_is_legal(t: Table, i: u8) -> bool
-    requires { ⌜ i < 32 ⌝ }
-    ensures { λ r. ⌜ r ≡ place-legal t i ⌝ }
+// Whether what stands in a place is legal: a thread in range with a priority not taken, or zero where no thread is.
+fn place_is_legal(th: Thread, domains: u8, used: bool, taken: bool) -> bool
+    ensures { λ r. ⌜ r ≡ pick used (and (thread-ok domains th) (not taken)) (thread-zero th) ⌝ }
 {
-    let threads = t.threads;
-    let th = threads[i as usize];
-    if i < t.count {
-        if thread_passes(t.domains, th) {
-            return !is_taken(threads, i, th.priority as u16);
+    if used {
+        if thread_passes(domains, th) {
+            return !taken;
         }
         return false;
     }
     thread_is_zero(th)
 }
 
+// The priorities that stand in earlier places are kept, so that none is searched for.
 fn places_are_legal(t: Table) -> bool
     ensures { λ r. ⌜ r ≡ every 32 (place-legal t) ⌝ }
 {
+    let mut taken = [false; 256];
     for i in 0..32u8 {
-        if !place_is_legal(t, i) {
+        let th = t.threads[i as usize];
+        let p = th.priority as usize;
+        if !place_is_legal(th, t.domains, i < t.count, taken[p]) {
             return false;
         }
+        taken[p] = true;
     }
     true
 }

@@ -1,30 +1,35 @@
 // The leak marks, from the table alone.
 ghost use mathlib.Core.Path.{_≡_};
-ghost use Prim.Native.Nat.{_≤_, _<_};
-ghost use Rattle.table.specs.Mark.{hidden-below, marked, marks-of};
+ghost use mathlib.Core.Bool.{not};
+ghost use Prim.Native.Nat.{_/_, _%_, _^_, _≤_, _<_};
+ghost use lib.Dec.{eqb, ltb};
+ghost use Rattle.basis.specs.Tests.{and};
+ghost use Rattle.table.specs.Mark.{marked, marks-of};
 use super::Table;
-use flow::may_flow;
+use super::Thread;
+use flow::bit;
+use flow::row;
 
-// Whether thread j stands below thread i and may not see it.
-fn hides(t: Table, i: u8, j: u8) -> bool
-    requires { ⌜ (i < 32) × (j < 32) ⌝ }
-    ensures { λ r. ⌜ r ≡ hidden-below t i j ⌝ }
+// Whether thread b stands below thread a, whose domain has this row, and may not see it.
+fn hides(row: u16, a: Thread, b: Thread) -> bool
+    ensures { λ r. ⌜ r ≡ and (ltb (b .priority) (a .priority)) (not (eqb (row / 2 ^ b .domain % 2) 1)) ⌝ }
 {
-    let a = t.threads[i as usize];
-    let b = t.threads[j as usize];
     if a.priority <= b.priority {
         return false;
     }
-    let rows = t.rows;
-    !may_flow(rows, a.domain, b.domain)
+    !bit(row, b.domain)
 }
 
 fn is_marked(t: Table, i: u8) -> bool
     requires { ⌜ (i < 32) × (t .count ≤ 32) ⌝ }
     ensures { λ r. ⌜ r ≡ marked t i ⌝ }
 {
+    let a = t.threads[i as usize];
+    let rows = t.rows;
+    let flow = row(rows, a.domain);
     for j in 0..t.count {
-        if hides(t, i, j) {
+        let b = t.threads[j as usize];
+        if hides(flow, a, b) {
             return true;
         }
     }

@@ -1,4 +1,5 @@
-use Rattle.table.specs.Mark.{hidden-below, marked}
+use Rattle.flow.specs.Flow.{flows}
+use Rattle.table.specs.Mark.{hidden-below, seen-by, marked}
 use Rattle.basis.proofs.TestLaws.{some-none, some-next, some-hit, some-end}
 use Rattle.basis.specs.Tests.{some}
 use mathlib.Core.Bool.{false}
@@ -9,23 +10,50 @@ use Rattle.table.proofs.mark.is_marked.Statement.{statement}
 use Rattle.table.proofs.mark.is_marked.Tie as tie
 use Rattle.table.proofs.mark.is_marked.Reads as reads
 use Rattle.table.proofs.mark.is_marked.Lts as lts
+use Rattle.flow.proofs.row.Reads as row-reads
 use Rattle.table.proofs.mark.hides.Reads as hides-reads
 
 abbrev Inv-loop : tie.InvT-loop
-Inv-loop t i j₀ j-end j = (j ≤ j-end) × (some j (hidden-below t i) ≡ false)
+Inv-loop i t a flow j₀ j-end j = (j ≤ j-end) × (some j (hidden-below t i) ≡ false)
 
 abbrev μ-loop : tie.MeasureT-loop
-μ-loop t i j₀ j-end j = j-end - j
+μ-loop i t a flow j₀ j-end j = j-end - j
+
+mul-a : tie.Need-mul-a Inv-loop μ-loop
+mul-a c = search needs
+
+element-copy-out-a : tie.Need-element-copy-out-a Inv-loop μ-loop
+element-copy-out-a c = search needs
+
+row-requires : tie.Need-row-requires Inv-loop μ-loop
+row-requires c κs = search needs
 
 loop-holds : tie.Need-loop-holds Inv-loop μ-loop
 loop-holds c = (search needs, some-none _)
 
+cast-b : tie.Need-cast-b Inv-loop μ-loop
+cast-b c = search needs
+
+mul-b : tie.Need-mul-b Inv-loop μ-loop
+mul-b c = search needs
+
+element-copy-out-b : tie.Need-element-copy-out-b Inv-loop μ-loop
+element-copy-out-b c = search needs
+
 hides-requires : tie.Need-hides-requires Inv-loop μ-loop
 hides-requires c κs = search needs
 
+-- What `hides` answers of a thread of the table.
+hidden : (c : tie.After-hides Inv-loop μ-loop)
+    → let l = c .before .before .before in
+    let a = l .before .before .before .before .args in
+    c .hides .result ≡ hidden-below (a .t1) (a .i) (l .loop .j)
+unfolding hidden-below seen-by flows
+hidden c = rw (c .before .before .before .before .row .ensures) at (c .hides .ensures)
+
 returns : tie.Need-returns Inv-loop μ-loop
 unfolding marked
-returns c = sym (some-hit _ _ _ (sym (c .before .hides .ensures) ∙ c .if1 .taken) (c .before .before .loop-test .taken))
+returns c = sym (some-hit _ _ _ (sym (hidden (c .before)) ∙ c .if1 .taken) (c .before .before .before .loop-test .taken))
 
 add-j : tie.Need-add-j Inv-loop μ-loop
 add-j c = search needs
@@ -34,7 +62,7 @@ loop-less : tie.Need-loop-less Inv-loop μ-loop
 loop-less c = search needs
 
 loop-again : tie.Need-loop-again Inv-loop μ-loop
-loop-again c = let l = c .before .before .before in (search needs, some-next (hidden-below (l .before .args .t) (l .before .args .i)) (l .loop .j) (l .loop .inv .1) (sym (c .before .hides .ensures) ∙ c .if1 .left))
+loop-again c = let l = c .before .before .before .before in (search needs, some-next _ _ (l .loop .inv .1) (sym (hidden (c .before)) ∙ c .if1 .left))
 
 returns-2 : tie.Need-returns-2 Inv-loop μ-loop
 unfolding marked
@@ -46,7 +74,13 @@ is-marked-spec =
     (tie.spec
     Inv-loop
     μ-loop
+    mul-a
+    element-copy-out-a
+    row-requires
     loop-holds
+    cast-b
+    mul-b
+    element-copy-out-b
     hides-requires
     returns
     add-j
