@@ -1,3 +1,4 @@
 pub mod RangeLaws
 pub mod LegalLaws
 pub mod MarkLaws
+pub mod GuardLaws
