@@ -7,6 +7,7 @@ use native.Mathlib.Numerals.{add-one}
 use native.Mathlib.Decide.{le-ind}
 use native.Mathlib.Nat.{eq-or-lt-of-le}
 use native.Mathlib.Omega.{arith}
+use borrow.Author.Tests.{not-true, not-false}
 use Rattle.basis.specs.Tests.{pick, and, or, every, some}
 
 -- A test has two cases, each with its equation.
@@ -48,6 +49,23 @@ and-both false b e = absurd (false≢true e)
 
 pub and-of : {a b : Bool} → a ≡ true → b ≡ true → and a b ≡ true
 and-of p q = rw (p, q)
+
+-- What a test says of the tests that it joins, for `search`.
+pub and-left : (a b : Bool) → and a b ≡ true → a ≡ true
+and-left a b e = and-both a b e .0
+
+pub and-right : (a b : Bool) → and a b ≡ true → b ≡ true
+and-right a b e = and-both a b e .1
+
+pub or-left : (a b : Bool) → or a b ≡ false → a ≡ false
+or-left false b e = refl
+or-left true b e = absurd (true≢false e)
+
+pub or-right : (a b : Bool) → or a b ≡ false → b ≡ false
+or-right false b e = e
+or-right true b e = absurd (true≢false e)
+
+pub ruleset joined = (and-left, and-right, or-left, or-right, not-true, not-false)
 
 pub and-false : (a : Bool) → and a false ≡ false
 and-false true = refl

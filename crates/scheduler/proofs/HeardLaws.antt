@@ -6,12 +6,13 @@ use mathlib.Core.Bool.{Bool, true, false}
 use lib.ListN.{length, getD}
 use lib.Dec.{eqb}
 use Rattle.basis.specs.Tests.{pick}
+use Rattle.table.specs.Mark.{marks-of}
 use Rattle.table.specs.declared.Table.{Table}
 use Rattle.scheduler.specs.declared.State.{State}
 use Rattle.scheduler.specs.declared.Answer.the-variants.{Idle}
 use Rattle.scheduler.specs.State.{progress}
 use Rattle.scheduler.specs.Order.{order}
-use Rattle.scheduler.specs.Step.{release, walked, visit, chosen, walk, advance, step, step-marks}
+use Rattle.scheduler.specs.Step.{release, walked, visit, chosen, walk, advance, step}
 use Rattle.scheduler.specs.Taken.{taken}
 use Rattle.scheduler.specs.Heard.{heard-by, Alike}
 
@@ -49,6 +50,6 @@ module _ (m : List Bool) (bs cs : List ℕ) where
 
 -- Two calls with as many bytes, alike where they are heard, are the same call.
 pub unheard-nothing : (t : Table) (bs cs : List ℕ) (s : State) → length bs ≡ length cs
-    → Alike bs cs (heard-by (step-marks t) bs (order t) (release t (t .count) s)) → taken t bs s ≡ taken t cs s
+    → Alike bs cs (heard-by (marks-of t) bs (order t) (release t (t .count) s)) → taken t bs s ≡ taken t cs s
 unfolding taken step advance
-unheard-nothing t bs cs s l h = rw (l, walk-hears (step-marks t) bs cs (order t) (release t (t .count) s) h)
+unheard-nothing t bs cs s l h = rw (l, walk-hears (marks-of t) bs cs (order t) (release t (t .count) s) h)

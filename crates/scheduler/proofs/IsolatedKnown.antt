@@ -19,7 +19,7 @@ use Rattle.table.specs.Mark.{seen-by, hidden-below, marked, marks-of}
 use Rattle.table.specs.declared.Table.{Table}
 use Rattle.scheduler.specs.State.{place-fits, fits, fresh}
 use Rattle.scheduler.specs.Order.{holder, down, order}
-use Rattle.scheduler.specs.Step.{at-phase, released, release, pay, finish, heard, runs, count, decided, visit, walk, tick, ticked, advance, step, step-marks}
+use Rattle.scheduler.specs.Step.{at-phase, released, release, pay, finish, heard, runs, count, decided, visit, walk, tick, ticked, advance, step}
 use Rattle.scheduler.specs.Taken.{Taken, rested, taken}
 use Rattle.scheduler.specs.Shown.{visible, view, showing}
 use Rattle.scheduler.specs.Isolated.{calls, answer-of, telling, shown-of, Same-step, Same-steps, ended, next}
@@ -47,7 +47,7 @@ steps xs = map (λ (x : ℕ). x ∷ 1 ∷ []) xs
 -- Thread 0's domain may not flow to domain 0.
 same-step : (x y : ℕ) → Same-step e 0 (x ∷ 1 ∷ []) (y ∷ 1 ∷ [])
 unfolding visible seen-by flows
-same-step x y = record { long = refl; same = same }
+same-step x y = record { long = refl; same = λ i v. cc (same i v) }
   where
     same : (i : ℕ) → visible e 0 i ≡ true → getD (x ∷ 1 ∷ []) i 0 ≡ getD (y ∷ 1 ∷ []) i 0
     same zero v = absurd (false≢true v)
@@ -74,5 +74,5 @@ k-3 = whatever-it-sends sends (replicate 10 1) refl
 -- What domain 0 is told, by computation: thread 1 ran at the fifth, sixth and seventh step.
 pub told : map (λ (r : Taken). telling e 0 (r .told)) (calls e (steps sends) fresh)
     ≡ map answered ([] ∷ [] ∷ [] ∷ [] ∷ (1 ∷ []) ∷ (1 ∷ []) ∷ (1 ∷ []) ∷ [] ∷ [] ∷ [] ∷ [])
-unfolding pick every some first listed flows row-ok broken gap-at gap-by-c gap-by-b first-gap within field-ranges field-range row-legal field-ok thread-ok field-zero thread-zero priority-taken place-legal legal seen-by hidden-below marked marks-of place-fits fits fresh holder down order at-phase released release pay finish heard runs count decided visit walk tick ticked advance step step-marks rested taken visible view showing calls answer-of telling
+unfolding pick every some first listed flows row-ok broken gap-at gap-by-c gap-by-b first-gap within field-ranges field-range row-legal field-ok thread-ok field-zero thread-zero priority-taken place-legal legal seen-by hidden-below marked marks-of place-fits fits fresh holder down order at-phase released release pay finish heard runs count decided visit walk tick ticked advance step rested taken visible view showing calls answer-of telling
 told = refl

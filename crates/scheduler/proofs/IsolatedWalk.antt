@@ -10,12 +10,12 @@ use lib.Dec.{eqb, ltb}
 use borrow.Author.Tests.{ltb-true, lt-ltb}
 use Rattle.basis.specs.Tests.{pick}
 use Rattle.basis.specs.Told.{answered}
-use Rattle.basis.proofs.TestLaws.{either, both, refuted, fails, and-both, and-of, some-hit, some-found}
+use Rattle.basis.proofs.TestLaws.{either, both, refuted, fails, and-both, and-of, joined, some-hit, some-found}
 use Rattle.table.specs.Threads.{thread}
 use Rattle.table.specs.Mark.{seen-by, marked}
 use Rattle.table.specs.Legal.{Legal}
 use Rattle.table.specs.declared.Table.{Table}
-use Rattle.table.proofs.MarkLaws.{mark-complete}
+use Rattle.table.proofs.GuardLaws.{guard-marked}
 use Rattle.scheduler.specs.State.{progress}
 use Rattle.scheduler.specs.Given.{Below}
 use Rattle.scheduler.specs.Step.{done, counted, paid, pay, finish, heard, runs, count, decided, visit, chosen, walk}
@@ -72,20 +72,19 @@ module _ (t : Table) (d : ℕ) where
     alike = alike-trans t d (alike-sym t d (p .alike)) (alike-trans t d a (q .alike));
   }
 
-  -- Whatever a thread that d may not see says once it has paid, d is shown nothing of it.
+  -- What a thread that d may not see says changes nothing that matters to d.
   quiet-heard : (b i : ℕ) (s : State) → visible t d i ≡ false → Alike t d s (heard b i s)
   unfolding heard finish
   quiet-heard b i s v = either (Alike t d s) (eqb b 2) (λ _. alike-kept t d done done-keeps s i v) (λ _. alike-refl t d s)
 
-  quiet-decided : (m : List Bool) (b i : ℕ) (s : State) → visible t d i ≡ false → Quiet t d s (decided m b i s)
-  unfolding decided count
-  quiet-decided m b i s v =
-      either (Quiet t d s) (runs b (progress s i))
-      (λ _. record { gap = unseen-gap i v; alike = alike-kept t d counted counted-keeps s i v })
-      (λ _. either (Quiet t d s) (getD m i false) (λ _. record { gap = idle-gap i; alike = alike-refl t d s }) (λ _. quiet-still s))
-
-  quiet-reached : (m : List Bool) (b i : ℕ) (s : State) → visible t d i ≡ false → Quiet t d s (decided m b i (heard b i s))
-  quiet-reached m b i s v = quiet-later (quiet-heard b i s v) (quiet-decided m b i _ v)
+  -- Reached, it pays whether it runs or waits: d is shown a gap, and the state is alike to the one in which it has just paid.
+  hidden-pays : (m : List Bool) (b i : ℕ) (s : State) → visible t d i ≡ false → Quiet t d (pay s i) (decided m b i s)
+  unfolding decided count pay
+  hidden-pays m b i s v =
+      either (Quiet t d (pay s i)) (runs b (progress s i))
+      (λ _. record { gap = unseen-gap i v; alike = alike-kept t d counted counted-keeps (pay s i) i v })
+      (λ _. either (Quiet t d (pay s i)) (getD m i false)
+      (λ _. record { gap = idle-gap i; alike = alike-refl t d (pay s i) }) (λ _. quiet-still (pay s i)))
 
   -- A thread that d may not see, and that stands above no visible one.
   abbrev Hidden : ℕ → Type 0
@@ -95,7 +94,8 @@ module _ (t : Table) (d : ℕ) where
   unfolding visit pay
   hidden-visit m b i s h =
       either (Quiet t d s) (eqb (progress s i .rest) 0) (λ _. quiet-still s)
-      (λ _. quiet-later (alike-hidden t d s i _ (h .0) (h .1)) (quiet-reached m b i _ (h .0)))
+      (λ _. quiet-later (quiet-heard b i s (h .0))
+      (quiet-later (alike-hidden t d (heard b i s) i _ (h .0) (h .1)) (hidden-pays m b i (heard b i s) (h .0))))
 
   hidden-walk : (m : List Bool) (bs is : List ℕ) (s : State) → All Hidden is → Quiet t d s (walk m bs is s)
   unfolding walk
@@ -117,19 +117,20 @@ module _ (t : Table) (d : ℕ) where
 
   visible-decided : (m : List Bool) (b i : ℕ) (s r : State) → visible t d i ≡ true → Alike t d s r
       → Abreast t d (decided m b i s) (decided m b i r)
-  unfolding decided count
+  unfolding decided count pay
   visible-decided m b i s r v a =
+      let p : Alike t d (pay s i) (pay r i) = alike-change t d paid paid-fair s r i a in
       both (Abreast t d) (runs b (progress s i)) _ (ap (runs b) (a .common i .seen v))
-      (λ _. record { agree = record { same = refl; alike = alike-change t d counted (keeps-fair counted counted-keeps) s r i a }; ends = refl })
+      (λ _. record { agree = record { same = refl; alike = alike-change t d counted (keeps-fair counted counted-keeps) _ _ i p }; ends = refl })
       (λ _. both (Abreast t d) (getD m i false) _ refl
-      (λ _. record { agree = record { same = refl; alike = a }; ends = refl }) (λ _. abreast-still s r a))
+      (λ _. record { agree = record { same = refl; alike = search }; ends = refl }) (λ _. abreast-still _ _ p))
 
   visible-visit : (m : List Bool) (b i : ℕ) (s r : State) → visible t d i ≡ true → Alike t d s r → Abreast t d (visit m b i s) (visit m b i r)
-  unfolding visit pay
+  unfolding visit
   visible-visit m b i s r v a =
       both (Abreast t d) (eqb (progress s i .rest) 0) _ (ap (λ (p : Progress). eqb (p .rest) 0) (a .common i .seen v))
       (λ _. abreast-still s r a)
-      (λ _. visible-decided m b i _ _ v (visible-heard b i _ _ (alike-change t d paid paid-fair s r i a)))
+      (λ _. visible-decided m b i _ _ v (visible-heard b i s r a))
 
   -- At a marked thread, both walks pass it or both end there, whatever it says.
   marked-ends : (m : List Bool) (b i : ℕ) (s : State) → getD m i false ≡ true → chosen (decided m b i s .answer) ≡ true
@@ -142,10 +143,12 @@ module _ (t : Table) (d : ℕ) where
       → Abreast t d (visit m b i s) (visit m c i r)
   unfolding visit pay
   marked-visit m b c i s r v g e a =
+      let heard-alike : Alike t d (heard b i s) (heard c i r)
+      = alike-trans t d (alike-sym t d (quiet-heard b i s v)) (alike-trans t d a (quiet-heard c i r v)) in
       both (Abreast t d) (eqb (progress s i .rest) 0) _ (ap (λ n. eqb n 0) (rest-accounted (progress s i) (progress r i) (a .common i .held g)))
       (λ _. abreast-still s r a)
       (λ _. record {
-        agree = quiet-both (alike-change t d paid paid-fair s r i a) (quiet-reached m b i _ v) (quiet-reached m c i _ v);
+        agree = quiet-both (alike-change t d paid paid-fair _ _ i heard-alike) (hidden-pays m b i _ v) (hidden-pays m c i _ v);
         ends = marked-ends m b i _ e ∙ sym (marked-ends m c i _ e);
       })
 
@@ -181,19 +184,14 @@ module _ (t : Table) (d : ℕ) where
   all-hidden i h [] f c = tt
   all-hidden i h (k ∷ is) f c = (below-hidden i h k (f .0) (c .0), all-hidden i h is (f .1) (c .1))
 
-  -- A hidden thread above a visible one is marked: else its domain could flow to d through the visible one's.
-  guard-marked : Legal t → d < t .domains → (i : ℕ) → i < t .count → visible t d i ≡ false → guards t d i ≡ true → marked t i ≡ true
+  -- A hidden thread above a visible one is marked: `guard-marked`, in the words of what d may see.
+  guard-of : Legal t → d < t .domains → (i : ℕ) → i < t .count → visible t d i ≡ false → guards t d i ≡ true → marked t i ≡ true
   unfolding visible seen-by
-  guard-marked l dd i c v g =
+  guard-of l dd i c v g =
       let j : Guarded i = guarded i g in
-      let seen = and-both (ltb (j .thread-below) (t .count)) _ (j .seen) in
-      mark-complete t i (record {
-        thread-below = j .thread-below;
-        in-table = j .in-table;
-        lower = j .lower;
-        barred = fails _ (λ f. refuted (and-of (lt-ltb _ _ c)
-            (l .transitive _ _ _ (l .threads i c .domain-high) (l .threads (j .thread-below) (j .in-table) .domain-high) dd f (seen .1))) v);
-      })
+      let below-seen : seen-by t (j .thread-below) d ≡ true = search (joined, j .seen) in
+      let unseen : seen-by t i d ≡ false = fails (seen-by t i d) (λ f. refuted {b = visible t d i} (simp (lt-ltb _ _ c, f)) v) in
+      guard-marked t l d i (j .thread-below) dd c (j .in-table) (j .lower) below-seen unseen
 
   module _ (l : Legal t) (dd : d < t .domains) (m : List Bool) (marks : Marks t m) where
     -- Two walks over is, from any states that are alike.
@@ -214,9 +212,11 @@ module _ (t : Table) (d : ℕ) where
     lockstep bs cs h (i ∷ is) f c = go (lockstep bs cs h is (f .1) (c .1)) (visible t d i) refl (guards t d i) refl
       where
         go : Onward bs cs is → (v : Bool) → visible t d i ≡ v → (g : Bool) → guards t d i ≡ g → Onward bs cs (i ∷ is)
-        go on true v g q = abreast-on bs cs i is (λ s r a. rw (h .same i v) (visible-visit m (getD cs i 0) i s r v a)) on
+        go on true v g q =
+            let e : getD bs i 0 ≡ getD cs i 0 = cc (h .same i v) in
+            abreast-on bs cs i is (λ s r a. rw e (visible-visit m (getD cs i 0) i s r v a)) on
         go on false v true q =
-            abreast-on bs cs i is (λ s r a. marked-visit m _ _ i s r v q (marks i (c .0) ∙ guard-marked l dd i (c .0) v q) a) on
+            abreast-on bs cs i is (λ s r a. marked-visit m _ _ i s r v q (marks i (c .0) ∙ guard-of l dd i (c .0) v q) a) on
         go on false v false q = λ s r a.
             let all : All Hidden (i ∷ is) = ((v, q), all-hidden i q is (f .0) (c .1)) in
             quiet-both a (hidden-walk m bs (i ∷ is) s all) (hidden-walk m cs (i ∷ is) r all)

@@ -18,14 +18,15 @@ use Rattle.basis.proofs.TestLaws.{either, both}
 use Rattle.basis.proofs.SearchLaws.{length-listed}
 use Rattle.table.specs.Legal.{legal, Legal, Sized}
 use Rattle.table.proofs.MarkLaws.{marks-at}
+use Rattle.table.specs.Mark.{marks-of}
 use Rattle.table.specs.declared.Table.{Table}
 use Rattle.table.proofs.LegalLaws.{legal-sound}
 use Rattle.scheduler.specs.State.{fresh, last-clock, Fits}
 use Rattle.scheduler.specs.Given.{Below}
 use Rattle.scheduler.specs.Order.{order}
-use Rattle.scheduler.specs.Step.{tick, ticked, advance, step, step-marks}
+use Rattle.scheduler.specs.Step.{tick, ticked, advance, step}
 use Rattle.scheduler.specs.Taken.{Taken, values, told, took, refused-step, taken}
-use Rattle.scheduler.specs.Shown.{visible, view, showing, showing-state, seen-threads, threads-shown}
+use Rattle.scheduler.specs.Shown.{visible, view, showing, showing-state, seen-progress, seen-threads, threads-shown}
 use Rattle.scheduler.specs.Isolated.{calls, answer-of, telling, shown-of, Same-step, Same-steps, ended, next, Isolated}
 use Rattle.scheduler.specs.declared.State.{State}
 use Rattle.scheduler.specs.declared.Answer.{Answer}
@@ -36,11 +37,6 @@ use Rattle.scheduler.proofs.FitLaws.{fresh-fits, fits-complete}
 use Rattle.scheduler.proofs.StepLaws.{step-fits, rested-always}
 use Rattle.scheduler.proofs.IsolatedAlike.{Alike, alike-refl, alike-release}
 use Rattle.scheduler.proofs.IsolatedWalk.{Agree, Marks, lockstep}
-
--- The marks that a step hands to its walk are the table's.
-right-marks : (t : Table) → Marks t (step-marks t)
-unfolding step-marks
-right-marks t i h = marks-at t i h
 
 -- An answer is known from its values.
 answer-of-values : (a : Answer) → answer-of (values a) ≡ a
@@ -72,7 +68,7 @@ module _ (t : Table) (l : Legal t) (d : ℕ) (dd : d < t .domains) where
 
   pub step-alike : (bs cs : List ℕ) → Same-step t d bs cs → (s r : State) → Alike t d s r → Agree t d (step t bs s) (step t cs r)
   unfolding step
-  step-alike bs cs h s r a = advance-alike (step-marks t) (right-marks t) (order t) (order-falls t) (order-below t) bs cs h s r a
+  step-alike bs cs h s r a = advance-alike (marks-of t) (marks-at t) (order t) (order-falls t) (order-below t) bs cs h s r a
 
 module _ (t : Table) (ok : legal t ≡ true) where
   -- On a fitting state a call is refused by the number of bytes or the clock, and by nothing else.
@@ -114,15 +110,16 @@ module _ (t : Table) (ok : legal t ≡ true) where
     same-call : (bs cs : List ℕ) → Same-step t d bs cs → (s r : State) → Fits t s → Fits t r → Alike t d s r
         → Same-calls (taken t bs s) (taken t cs r)
     same-call bs cs h s r f g a =
+        let e : length bs ≡ length cs = cc (h .long) in
         rw (call-by bs s f, call-by cs r g)
-        (both Same-calls (eqb (length bs) (t .count)) _ (ap (λ n. eqb n (t .count)) (h .long))
+        (both Same-calls (eqb (length bs) (t .count)) _ (ap (λ n. eqb n (t .count)) e)
         (λ _. both Same-calls (ltb (s .clock) last-clock) _ (ap (λ c. ltb c last-clock) (a .clocks))
         (λ _. let o = step-alike t l d dd bs cs h s r a in record { told = telling-same _ _ (o .same); alike = o .alike })
         (λ _. record { told = refl; alike = a }))
         (λ _. record { told = refl; alike = a }))
 
     same-threads : (s r : State) → Alike t d s r → seen-threads t d s ≡ seen-threads t d r
-    unfolding seen-threads
+    unfolding seen-threads seen-progress
     same-threads s r a = ap (listed 32) (fun-ext (λ i. both _≡_ (visible t d i) _ refl (λ v. a .common i .seen v) (λ _. refl)))
 
     same-shown : (v w : Taken) → Fits t (v .state) → Fits t (w .state) → Same-calls v w → shown-of t d v ≡ shown-of t d w

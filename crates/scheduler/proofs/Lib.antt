@@ -10,4 +10,3 @@ pub mod IsolatedAlike
 pub mod IsolatedWalk
 pub mod Isolation
 pub mod IsolatedKnown
-pub mod StoryIsolated

@@ -11,6 +11,7 @@ use lib.ListN.{length, getD}
 use lib.Dec.{eqb, ltb}
 use Rattle.basis.proofs.TestLaws.{both-ways, either, and-of, refuted}
 use Rattle.table.specs.Threads.{thread}
+use Rattle.table.specs.Mark.{marks-of}
 use Rattle.table.specs.declared.Table.{Table}
 use Rattle.scheduler.specs.declared.Progress.{Progress}
 use Rattle.scheduler.specs.declared.State.{State}
@@ -18,7 +19,7 @@ use Rattle.scheduler.specs.declared.Walked.{Walked}
 use Rattle.scheduler.specs.State.{progress, Fits}
 use Rattle.scheduler.specs.Given.{Each}
 use Rattle.scheduler.specs.Order.{order}
-use Rattle.scheduler.specs.Step.{at-phase, released, release, pay, finish, heard, count, decided, visit, walk, tick, ticked, advance, step, step-marks}
+use Rattle.scheduler.specs.Step.{at-phase, released, release, pay, finish, heard, count, decided, visit, walk, tick, ticked, advance, step}
 use Rattle.scheduler.specs.Paid.{releases, pays, payments}
 use Rattle.scheduler.proofs.OrderLaws.{order-below, Falling-from, order-falls-from}
 use Rattle.scheduler.proofs.WalkLaws.{put-each, walk-each, release-each}
@@ -30,8 +31,8 @@ pub step-spends : (t : Table) (bs : List ℕ) (s : State) → Spent (release t (
 unfolding step advance ticked tick
 step-spends t bs s =
     let r : State = release t (t .count) s in
-    let w : Spent r (walk (step-marks t) bs (order t) r .state)
-    = walk-each (step-marks t) (t .count) _ (kept-spent (t .count) r) (λ i p. p .rest ≤ progress r i .rest) (λ i p h. h)
+    let w : Spent r (walk (marks-of t) bs (order t) r .state)
+    = walk-each (marks-of t) (t .count) _ (kept-spent (t .count) r) (λ i p. p .rest ≤ progress r i .rest) (λ i p h. h)
     (λ i p l h. h) bs (order t) r (order-below t) (record { at = λ i. le-refl _ }) in
     record { at = w .at }
 
@@ -45,11 +46,13 @@ module _ (t : Table) (m : List Bool) (s : State) where
   unfolding visit decided heard finish pay count
   visit-once p b i z l h =
       let P : ℕ → Progress → Type 0 = Once (thread t i .priority) in
-      let a : Each P z = record { at = λ k. (h .at k .0, λ u. h .at k .1 (omega arith)) } in
-      let c : Each P (pay z i) = put-each P z i _ a (omega (arith, h .at i .1 l), λ u. absurd (omega arith)) in
-      let d : Each P (heard b i (pay z i)) = both-ways (Each P) _ _ _ (put-each P (pay z i) i _ c (c .at i)) c in
+      let reached : (x : State) → Each (Once p) x → Each P x = λ x g. record { at = λ k. (g .at k .0, λ u. g .at k .1 (omega arith)) } in
+      let k : Each (Once p) (heard b i z) = both-ways (Each (Once p)) _ _ _ (put-each (Once p) z i _ h (h .at i)) h in
+      let a : Each P (heard b i z) = reached _ k in
+      let q : Each P (pay (heard b i z) i) = put-each P (heard b i z) i _ a (omega (arith, k .at i .1 l), λ u. absurd (omega arith)) in
       let R : Walked → Type 0 = λ w. Each P (w .state) in
-      both-ways R _ _ _ a (both-ways R _ _ _ (put-each P (heard b i (pay z i)) i _ d (d .at i)) (both-ways R _ _ _ d d))
+      both-ways R _ _ _ (reached z h)
+      (both-ways R _ _ _ (put-each P (pay (heard b i z) i) i _ q (q .at i)) (both-ways R _ _ _ (search) (search)))
 
   walk-once : (p : ℕ) (bs is : List ℕ) (z : State) → Falling-from t p is → Each (Once p) z
       → Each (λ i q. progress s i .rest ≤ q .rest + 1) (walk m bs is z .state)
@@ -64,8 +67,8 @@ pub pays-once : (t : Table) (bs : List ℕ) (s : State) (i : ℕ) → pays t bs 
 unfolding pays step advance ticked tick
 pays-once t bs s i =
     let r : State = release t (t .count) s in
-    let w : Each (λ i q. progress r i .rest ≤ q .rest + 1) (walk (step-marks t) bs (order t) r .state)
-    = walk-once t (step-marks t) r 256 bs (order t) r (order-falls-from t) (record { at = λ i. (omega arith, λ u. le-refl _) }) in
+    let w : Each (λ i q. progress r i .rest ≤ q .rest + 1) (walk (marks-of t) bs (order t) r .state)
+    = walk-once t (marks-of t) r 256 bs (order t) r (order-falls-from t) (record { at = λ i. (omega arith, λ u. le-refl _) }) in
     omega (arith, w .at i)
 
 -- A clock that is no release of thread i leaves its rest or takes it away.

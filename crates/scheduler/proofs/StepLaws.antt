@@ -12,6 +12,7 @@ use lib.Dec.{eqb}
 use Rattle.basis.specs.Tests.{pick}
 use Rattle.basis.proofs.TestLaws.{both-ways, either}
 use Rattle.table.specs.Threads.{thread}
+use Rattle.table.specs.Mark.{marks-of}
 use Rattle.table.specs.declared.Table.{Table}
 use Rattle.scheduler.specs.declared.Answer.{Answer}
 use Rattle.scheduler.specs.declared.Answer.the-variants.{Ran, IdleFor, Idle}
@@ -20,7 +21,7 @@ use Rattle.scheduler.specs.declared.Walked.{Walked}
 use Rattle.scheduler.specs.State.{progress, last-clock, Fits}
 use Rattle.scheduler.specs.Given.{Each}
 use Rattle.scheduler.specs.Order.{order}
-use Rattle.scheduler.specs.Step.{at-phase, released, release, decided, visit, chosen, walk, ticked, advance, step, step-marks}
+use Rattle.scheduler.specs.Step.{at-phase, released, release, decided, visit, chosen, walk, ticked, advance, step}
 use Rattle.scheduler.specs.Taken.{took, unrested, rested}
 use Rattle.scheduler.proofs.OrderLaws.{order-below}
 use Rattle.scheduler.proofs.WalkLaws.{Kept, passed-each, walk-on, walk-stop, release-at}
@@ -29,11 +30,11 @@ use Rattle.scheduler.proofs.FitLaws.{advance-clock, advance-fits}
 module _ (t : Table) (bs : List ℕ) (s : State) where
   pub step-clock : step t bs s .state .clock ≡ s .clock + 1
   unfolding step
-  step-clock = advance-clock t (step-marks t) (order t) bs s
+  step-clock = advance-clock t (marks-of t) (order t) bs s
 
   pub step-fits : Fits t s → s .clock < last-clock → Fits t (step t bs s .state)
   unfolding step
-  step-fits f h = advance-fits t (step-marks t) (order t) bs s (order-below t) f h
+  step-fits f h = advance-fits t (marks-of t) (order t) bs s (order-below t) f h
 
 -- No thread has more rest than in s.
 abbrev pub Spent : State → State → Type 0
@@ -76,7 +77,7 @@ chosen-rested m bs is s = walk-rested m bs s is s (record { at = λ i. le-refl _
 -- So 17 is never given.
 pub rested-always : (t : Table) (bs : List ℕ) (s : State) → rested s (release t (t .count) s) (step t bs s) ≡ took (step t bs s)
 unfolding rested step advance ticked pick
-rested-always t bs s = simp (chosen-rested (step-marks t) bs (order t) (release t (t .count) s))
+rested-always t bs s = simp (chosen-rested (marks-of t) bs (order t) (release t (t .count) s))
 
 -- A release at phase 0 refills the budget.
 pub rest-after-release : (t : Table) (s : State) (i : ℕ) → t .count ≤ 32 → Fits t s → i < t .count → thread t i .offset ≤ s .clock

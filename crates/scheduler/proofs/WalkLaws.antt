@@ -9,8 +9,9 @@ use native.Mathlib.Numerals.{add-one}
 use native.Mathlib.Nat.{le-antisymm, eq-or-lt-of-le}
 use lib.ListN.{length, getD, set, length-set}
 use lib.Seq.{slice, slice-cons, slice-empty, getD-set-same, getD-set-other}
+use lib.Dec.{eqb}
 use Rattle.basis.specs.Tests.{pick}
-use Rattle.basis.proofs.TestLaws.{both-ways}
+use Rattle.basis.proofs.TestLaws.{by-test, both-ways}
 use Rattle.table.specs.Threads.{thread}
 use Rattle.table.specs.declared.Table.{Table}
 use Rattle.table.specs.declared.Thread.{Thread}
@@ -51,6 +52,26 @@ walk-none m bs l n k s p q = rw (le-antisymm p q, slice-empty)
 pub slice-next : (l : List ℕ) (n k : ℕ) → n ≤ length l → k < n → slice k n l ≡ getD l k 0 ∷ slice (k + 1) n l
 slice-next l n k h p = rw add-one (slice-cons k n l 0 p h)
 
+-- A finish leaves a rest.
+pub finish-rested : (s : State) (i : ℕ) → 0 < progress s i .rest → 0 < progress (finish s i) i .rest
+unfolding finish
+finish-rested s i h =
+    put-each (λ k p. k ≡ i → 0 < p .rest) s i (done (progress s i)) (record { at = λ k e. rw e h }) (λ e. h) .at i refl
+
+-- Document 01 has a reached thread pay, and then its byte is heard: the definition's other order comes to the same.
+changed-twice : (f g : Progress → Progress) (l : List Progress) (i : ℕ)
+    → set (set l i (f (getD l i no-progress))) i (g (getD (set l i (f (getD l i no-progress))) i no-progress)) ≡ set l i (g (f (getD l i no-progress)))
+changed-twice f g [] i = refl
+changed-twice f g (p ∷ l) zero = refl
+changed-twice f g (p ∷ l) (suc i) = rw (changed-twice f g l i)
+
+pub paid-heard : (b i : ℕ) (s : State) → pay (heard b i s) i ≡ heard b i (pay s i)
+unfolding heard finish pay pick
+paid-heard b i s =
+    by-test (eqb b 2)
+    (λ e. rw (e, changed-twice done paid (s .threads) i, changed-twice paid done (s .threads) i))
+    (λ e. rw e)
+
 -- What paying and finishing keep of each thread below n, up to the choice of a thread.
 pub record Kept (n : ℕ) (P : ℕ → Progress → Type 0) : Type 0 where
   pub pays : (i : ℕ) (p : Progress) → i < n → P i p → P i (paid p)
@@ -65,20 +86,19 @@ module _ (n : ℕ) (P : ℕ → Progress → Type 0) (kept : Kept n P) where
   unfolding finish
   finish-each i s l h = put-each P s i _ h (kept .finishes i _ l (h .at i))
 
-  heard-each : (b i : ℕ) (s : State) → i < n → Each P s → Each P (heard b i (pay s i))
+  heard-each : (b i : ℕ) (s : State) → i < n → Each P s → Each P (heard b i s)
   unfolding heard
-  heard-each b i s l h =
-      let k : Each P (pay s i) = pay-each i s l h in
-      both-ways (Each P) _ _ _ (finish-each i _ l k) k
+  heard-each b i s l h = both-ways (Each P) _ _ _ (finish-each i s l h) h
 
 module _ (m : List Bool) (n : ℕ) (P : ℕ → Progress → Type 0) (kept : Kept n P) where
-  -- a visit that chooses nobody
+  -- a visit that chooses nobody; `search` takes the state that the definition hands on, heard (k) or paid too (q)
   pub passed-each : (b i : ℕ) (s : State) → i < n → Each P s → chosen (visit m b i s .answer) ≡ false → Each P (visit m b i s .state)
-  unfolding visit decided
+  unfolding visit decided pay
   passed-each b i s l h =
-      let k : Each P (heard b i (pay s i)) = heard-each n P kept b i s l h in
+      let k : Each P (heard b i s) = heard-each n P kept b i s l h in
+      let q : Each P (pay (heard b i s) i) = pay-each n P kept i _ l k in
       let R : Walked → Type 0 = λ w. chosen (w .answer) ≡ false → Each P (w .state) in
-      both-ways R _ _ _ (λ _. h) (both-ways R _ _ _ (λ e. absurd (true≢false e)) (both-ways R _ _ _ (λ _. k) (λ _. k)))
+      both-ways R _ _ _ (λ _. h) (both-ways R _ _ _ (λ e. absurd (true≢false e)) (both-ways R _ _ _ (λ _. search) (λ _. search)))
 
   -- any visit, and a walk: Q is what P becomes where one thread at most is counted
   module _ (Q : ℕ → Progress → Type 0) (weaker : (i : ℕ) (p : Progress) → P i p → Q i p) (counts : (i : ℕ) (p : Progress) → i < n → P i p → Q i (counted p)) where
@@ -86,12 +106,13 @@ module _ (m : List Bool) (n : ℕ) (P : ℕ → Progress → Type 0) (kept : Kep
     weak s h = record { at = λ i. weaker i _ (h .at i) }
 
     visit-each : (b i : ℕ) (s : State) → i < n → Each P s → Each Q (visit m b i s .state)
-    unfolding visit decided count
+    unfolding visit decided count pay
     visit-each b i s l h =
-        let k : Each P (heard b i (pay s i)) = heard-each n P kept b i s l h in
+        let k : Each P (heard b i s) = heard-each n P kept b i s l h in
+        let q : Each P (pay (heard b i s) i) = pay-each n P kept i _ l k in
         let R : Walked → Type 0 = λ w. Each Q (w .state) in
-        let c : Each Q (count (heard b i (pay s i)) i) = put-each Q (heard b i (pay s i)) i _ (weak _ k) (counts i _ l (k .at i)) in
-        both-ways R _ _ _ (weak s h) (both-ways R _ _ _ c (both-ways R _ _ _ (weak _ k) (weak _ k)))
+        let c : Each Q (count (pay (heard b i s) i) i) = put-each Q (pay (heard b i s) i) i _ (weak _ q) (counts i _ l (q .at i)) in
+        both-ways R _ _ _ (weak s h) (both-ways R _ _ _ c (both-ways R _ _ _ (weak _ (search)) (weak _ (search))))
 
     turn : (bs : List ℕ) (i : ℕ) (is : List ℕ) (s : State) → i < n → Each P s → ((z : State) → Each P z → Each Q (walk m bs is z .state))
         → (b : Bool) → chosen (visit m (getD bs i 0) i s .answer) ≡ b → Each Q (walk m bs (i ∷ is) s .state)
@@ -147,8 +168,9 @@ module _ {A : Type 0} (f : State → A) (kept : (s : State) (i : ℕ) (p : Progr
   visit-keeps m b i s =
       let Q : State → Type 0 = λ x. f x ≡ f s in
       let P : Walked → Type 0 = λ w. f (w .state) ≡ f s in
-      let k : f (heard b i (pay s i)) ≡ f s = both-ways Q _ _ _ (kept _ _ _ ∙ kept _ _ _) (kept _ _ _) in
-      both-ways P _ _ _ refl (both-ways P _ _ _ (kept _ _ _ ∙ k) (both-ways P _ _ _ k k))
+      let k : f (heard b i s) ≡ f s = both-ways Q _ _ _ (kept _ _ _) refl in
+      let q : f (pay (heard b i s) i) ≡ f s = kept _ _ _ ∙ k in
+      both-ways P _ _ _ refl (both-ways P _ _ _ (kept _ _ _ ∙ q) (both-ways P _ _ _ (search) (search)))
 
   pub walk-keeps : (m : List Bool) (bs is : List ℕ) (s : State) → f (walk m bs is s .state) ≡ f s
   unfolding walk

@@ -8,5 +8,3 @@ pub mod Heard
 pub mod Paid
 pub mod Shown
 pub mod Isolated
-pub mod Lessons
-pub mod Story

@@ -41,9 +41,13 @@ told Gap = answered []
 told NotLegal = refused 11
 told NoDomain = refused 15
 
--- The rest, mark and count of each thread that d may see, and zeros for the others.
+-- Thread i's rest, mark and count if d may see it, and zeros otherwise.
+unfoldable pub seen-progress : Table → ℕ → State → ℕ → Progress
+seen-progress t d s i = pick (visible t d i) (progress s i) no-progress
+
+-- What d is shown of each thread.
 unfoldable pub seen-threads : Table → ℕ → State → List Progress
-seen-threads t d s = listed 32 (λ i. pick (visible t d i) (progress s i) no-progress)
+seen-threads t d s = listed 32 (seen-progress t d s)
 
 -- 11, 12, then 15.
 unfoldable pub showing-state : Table → State → ℕ → Told

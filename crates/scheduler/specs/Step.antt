@@ -64,16 +64,16 @@ count s i = put s i (counted (progress s i))
 abbrev pub walked : Answer → State → Walked
 walked a s = record { answer = a; state = s }
 
--- A thread that has paid and was heard runs and is chosen; or waits and is chosen if marked (marks m), and the processor
--- idles on its account; or the walk goes on (Idle).
+-- A thread that was heard pays in each of three cases: it runs and is chosen; it waits and is chosen if marked (marks m), and the
+-- processor idles on its account; or the walk goes on (Idle).
 unfoldable pub decided : List Bool → ℕ → ℕ → State → Walked
 decided m b i s =
-    pick (runs b (progress s i)) (walked (Ran i) (count s i))
-    (pick (getD m i false) (walked (IdleFor i) s) (walked Idle s))
+    pick (runs b (progress s i)) (walked (Ran i) (count (pay s i) i))
+    (pick (getD m i false) (walked (IdleFor i) (pay s i)) (walked Idle (pay s i)))
 
 -- The walk comes to thread i, whose byte is b: passed if its rest is 0.
 unfoldable pub visit : List Bool → ℕ → ℕ → State → Walked
-visit m b i s = pick (eqb (progress s i .rest) 0) (walked Idle s) (decided m b i (heard b i (pay s i)))
+visit m b i s = pick (eqb (progress s i .rest) 0) (walked Idle s) (decided m b i (heard b i s))
 
 abbrev pub chosen : Answer → Bool
 chosen (Ran i) = true
@@ -98,10 +98,6 @@ ticked w = walked (w .answer) (tick (w .state))
 unfoldable pub advance : Table → List Bool → List ℕ → List ℕ → State → Walked
 advance t m is bs s = ticked (walk m bs is (release t (t .count) s))
 
--- The marks that a step goes by are the table's.
-unfoldable pub step-marks : Table → List Bool
-step-marks t = marks-of t
-
--- One step: the walk goes from the highest priority down, step bytes bs in table order.
+-- One step: the walk goes from the highest priority down with the table's marks, step bytes bs in table order.
 unfoldable pub step : Table → List ℕ → State → Walked
-step t bs s = advance t (step-marks t) (order t) bs s
+step t bs s = advance t (marks-of t) (order t) bs s

@@ -1,9 +1,7 @@
 // What a domain may see.
 ghost use mathlib.Core.Path.{_≡_};
 ghost use Prim.Native.Nat.{_<_, _≤_};
-ghost use Rattle.basis.specs.Tests.{pick};
-ghost use Rattle.scheduler.specs.State.{no-progress, progress};
-ghost use Rattle.scheduler.specs.Shown.{visible, view as the-view, told, seen-threads};
+ghost use Rattle.scheduler.specs.Shown.{visible, view as the-view, told, seen-progress, seen-threads};
 use super::Answer;
 use super::Progress;
 use super::State;
@@ -44,12 +42,14 @@ pub fn view(t: Table, d: u8, a: Answer) -> View
 
 fn seen(t: Table, d: u8, s: State, i: u8) -> Progress
     requires { ⌜ (t .count ≤ 32) × (i < 32) ⌝ }
-    ensures { λ r. ⌜ r ≡ pick (visible t d i) (progress s i) no-progress ⌝ }
+    ensures { λ r. ⌜ r ≡ seen-progress t d s i ⌝ }
 {
+    let p = s.threads[i as usize];
+    let hidden = no_progress();
     if is_visible(t, d, i) {
-        return s.threads[i as usize];
+        return p;
     }
-    no_progress()
+    hidden
 }
 
 // The progress of each thread that d may see, and zeros for the others.

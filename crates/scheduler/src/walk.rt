@@ -37,14 +37,15 @@ fn is_chosen(a: Answer) -> bool
     }
 }
 
-// A thread that has paid and was heard runs, or the processor idles on its account, or the walk goes on.
+// A thread that was heard pays, and runs, or the processor idles on its account, or the walk goes on.
 fn decide(marks: [bool; 32], s: State, i: u8, b: u8) -> Walked
-    requires { ⌜ (i < 32) × Counted 999999999 s ⌝ }
+    requires { ⌜ (i < 32) × (0 < progress s i .rest) × Counted 999999999 s ⌝ }
     ensures { λ r. ⌜ r ≡ decided marks b i s ⌝ }
 {
     let p = s.threads[i as usize];
+    let paid = s.pay(i);
     if runs(b, p) {
-        let ran = s.count(i);
+        let ran = paid.count(i);
         return Walked {
             answer: Answer::Ran(i),
             state: ran,
@@ -53,12 +54,12 @@ fn decide(marks: [bool; 32], s: State, i: u8, b: u8) -> Walked
     if marks[i as usize] {
         return Walked {
             answer: Answer::IdleFor(i),
-            state: s,
+            state: paid,
         };
     }
     Walked {
         answer: Answer::Idle,
-        state: s,
+        state: paid,
     }
 }
 
@@ -74,11 +75,10 @@ fn visit(marks: [bool; 32], s: State, i: u8, b: u8) -> Walked
             state: s,
         };
     }
-    let paid = s.pay(i);
     if b == 2 {
-        return decide(marks, paid.finish(i), i, b);
+        return decide(marks, s.finish(i), i, b);
     }
-    decide(marks, paid, i, b)
+    decide(marks, s, i, b)
 }
 
 // The walk over the ranked threads, left at the first that is chosen.

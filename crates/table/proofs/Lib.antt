@@ -2,3 +2,4 @@ pub mod RangeLaws
 pub mod TakenLaws
 pub mod LegalLaws
 pub mod MarkLaws
+pub mod GuardLaws

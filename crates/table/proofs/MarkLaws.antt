@@ -1,17 +1,16 @@
 -- The mark says exactly that a thread leaks, `marks` gives these marks, and no second answer fits it.
 use Prim.Native.Nat.{ℕ, _-_, _≤_, _<_}
 use mathlib.Core.Path.{_≡_, refl, sym, _∙_, ap}
-use mathlib.Core.Bool.{Bool, true, false, not}
+use mathlib.Core.Bool.{Bool, true, false}
 use mathlib.Core.List.{List, _++_}
 use mathlib.Core.Logic.{_↔_}
 use native.Mathlib.Omega.{arith}
 use lib.ListN.{length, getD, replicate, length-append, length-replicate}
-use lib.Dec.{ltb}
-use borrow.Author.Tests.{ltb-true, lt-ltb, not-true}
-use Rattle.basis.specs.Tests.{pick, and, some}
+use borrow.Author.Tests.{ltb-true, lt-ltb}
+use Rattle.basis.specs.Tests.{pick, some}
 use Rattle.basis.specs.Search.{listed}
 use Rattle.basis.specs.Told.{Told}
-use Rattle.basis.proofs.TestLaws.{by-test, and-both, some-found, some-hit, Passing}
+use Rattle.basis.proofs.TestLaws.{by-test, joined, some-found, some-hit, Passing}
 use Rattle.basis.proofs.SearchLaws.{length-listed, listed-at, listed-past}
 use Rattle.basis.proofs.ListLaws.{all-alike}
 use Rattle.table.specs.Threads.{thread}
@@ -25,14 +24,14 @@ use Rattle.table.proofs.LegalLaws.{legal-small}
 
 pub mark-complete : (t : Table) (i : ℕ) → Leaks t i → marked t i ≡ true
 unfolding marked hidden-below seen-by
-mark-complete t i l = some-hit (hidden-below t i) (l .thread-below) (t .count) (rw (lt-ltb _ _ (l .lower), l .barred)) (l .in-table)
+mark-complete t i l = some-hit (hidden-below t i) (l .thread-below) (t .count) (simp (lt-ltb _ _ (l .lower), l .barred)) (l .in-table)
 
+-- In whatever words the tests of the mark are joined.
 pub mark-sound : (t : Table) (i : ℕ) → marked t i ≡ true → Leaks t i
 unfolding marked hidden-below seen-by
 mark-sound t i e =
     let f : Passing (hidden-below t i) (t .count) = some-found _ (t .count) e in
-    let b = and-both (ltb (thread t (f .number) .priority) (thread t i .priority)) _ (f .passes) in
-    record { thread-below = f .number; in-table = f .below; lower = ltb-true _ _ (b .0); barred = not-true _ (b .1) }
+    record { thread-below = f .number; in-table = f .below; lower = search (ltb-true, joined, f .passes); barred = search (joined, f .passes) }
 
 -- The mark of each thread stands at its place.
 pub marks-at : (t : Table) (i : ℕ) → i < t .count → getD (marks-of t) i false ≡ marked t i

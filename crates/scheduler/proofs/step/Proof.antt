@@ -11,7 +11,7 @@ use Rattle.table.specs.Legal.{legal, Sized}
 use Rattle.scheduler.specs.State.{fits, Fits}
 use Rattle.scheduler.specs.Given.{Usable, Below}
 use Rattle.scheduler.specs.Order.{order}
-use Rattle.scheduler.specs.Step.{step-marks, step}
+use Rattle.scheduler.specs.Step.{step}
 use Rattle.scheduler.specs.Taken.{taken, rested}
 use Rattle.scheduler.proofs.OrderLaws.{order-below}
 use Rattle.scheduler.proofs.FitLaws.{fits-sound, usable}
@@ -46,7 +46,7 @@ fitting c = sym (c .before .fits2 .ensures) ∙ not-false _ (c .if2 .left)
 
 -- The prepared step is the step.
 stepped : (c : tie.After-advance) → c .advance .result ≡ step (c .before .before .before .before .before .before .before .before .before .before .before .args .t) (c .before .before .before .before .before .before .before .before .before .before .before .args .bytes .now) (c .before .before .before .before .before .before .before .before .before .before .before .args .s)
-unfolding step step-marks
+unfolding step
 stepped c = rw (← c .before .prepare .ensures .1, ← c .before .prepare .ensures .2) (c .advance .ensures)
 
 legal-requires : tie.Need-legal-requires

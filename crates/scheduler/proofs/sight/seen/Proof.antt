@@ -1,3 +1,4 @@
+use Rattle.scheduler.specs.Shown.{seen-progress}
 use Rattle.basis.specs.Tests.{pick}
 use mathlib.Core.Path.{sym, _∙_}
 use borrow.Author.Needs.{needs}
@@ -8,33 +9,27 @@ use Rattle.scheduler.proofs.sight.seen.Lts as lts
 use Rattle.scheduler.proofs.methods.no_progress.Reads as no-progress-reads
 use Rattle.scheduler.proofs.sight.is_visible.Reads as is-visible-reads
 
-is-visible-requires : tie.Need-is-visible-requires
-is-visible-requires c κs = search needs
+mul-p : tie.Need-mul-p
+mul-p c = search needs
 
-mul-result : tie.Need-mul-result
-mul-result c = search needs
-
-element-copy-out-result : tie.Need-element-copy-out-result
-element-copy-out-result c = search needs
-
-returns : tie.Need-returns
-unfolding pick
-returns c = rw (sym (c .before .before .is-visible .ensures) ∙ c .before .if1 .taken)
+element-copy-out-p : tie.Need-element-copy-out-p
+element-copy-out-p c = search needs
 
 no-progress-requires : tie.Need-no-progress-requires
 no-progress-requires c κs = search needs
 
+is-visible-requires : tie.Need-is-visible-requires
+is-visible-requires c κs = search needs
+
+returns : tie.Need-returns
+unfolding seen-progress pick
+returns c = rw (sym (c .before .is-visible .ensures) ∙ c .if1 .taken)
+
 returns-2 : tie.Need-returns-2
-unfolding pick
-returns-2 c = rw (sym (c .before .before .is-visible .ensures) ∙ c .before .if1 .left) (c .no-progress .ensures)
+unfolding seen-progress pick
+returns-2 c = simp (sym (c .before .is-visible .ensures) ∙ c .if1 .left, c .before .before .no-progress .ensures)
 
 pub seen-spec : {M : Type 1} → statement M
 seen-spec =
     tie.close
-    (tie.spec
-    is-visible-requires
-    mul-result
-    element-copy-out-result
-    returns
-    no-progress-requires
-    returns-2)
+    (tie.spec mul-p element-copy-out-p no-progress-requires is-visible-requires returns returns-2)

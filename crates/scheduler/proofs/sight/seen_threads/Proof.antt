@@ -1,8 +1,7 @@
-use Rattle.scheduler.specs.Shown.{visible, seen-threads}
-use Rattle.scheduler.specs.State.{no-progress, progress}
+use Rattle.scheduler.specs.Shown.{seen-progress, seen-threads}
+use Rattle.scheduler.specs.State.{no-progress}
 use Rattle.basis.proofs.SearchLaws.{listed-none, listed-next}
 use Rattle.basis.specs.Search.{listed}
-use Rattle.basis.specs.Tests.{pick}
 use native.Mathlib.Omega.{arith}
 use native.Mathlib.Nat.{le-antisymm}
 use lib.ListN.{replicate}
@@ -18,7 +17,7 @@ use Rattle.scheduler.proofs.methods.no_progress.Reads as no-progress-re
 use Rattle.scheduler.proofs.sight.seen.Reads as seen-reads
 
 abbrev Inv-loop : tie.InvT-loop
-Inv-loop t d s out₀ i₀ out i = (i ≤ 32) × (out ≡ listed i (λ j. pick (visible t d j) (progress s j) no-progress) ++ replicate (32 - i) no-progress)
+Inv-loop t d s out₀ i₀ out i = (i ≤ 32) × (out ≡ listed i (seen-progress t d s) ++ replicate (32 - i) no-progress)
 
 abbrev μ-loop : tie.MeasureT-loop
 μ-loop t d s out₀ i₀ out i = 32 - i
@@ -48,7 +47,7 @@ loop-less : tie.Need-loop-less Inv-loop μ-loop
 loop-less c = search needs
 
 loop-again : tie.Need-loop-again Inv-loop μ-loop
-loop-again c = let l = c .before .before in (search needs, rw (l .loop .inv .1, c .seen .ensures) (listed-next (λ j. pick (visible (l .before .before .args .t) (l .before .before .args .d) j) (progress (l .before .before .args .s) j) no-progress) no-progress (l .loop .i) 32 (omega arith)))
+loop-again c = let l = c .before .before in (search needs, rw (l .loop .inv .1, c .seen .ensures) (listed-next (seen-progress (l .before .before .args .t) (l .before .before .args .d) (l .before .before .args .s)) no-progress (l .loop .i) 32 (omega arith)))
 
 returns : tie.Need-returns Inv-loop μ-loop
 unfolding seen-threads

@@ -1,4 +1,5 @@
-use Rattle.scheduler.specs.Step.{decided}
+use Rattle.scheduler.proofs.WalkLaws.{kept-counts, pay-each}
+use Rattle.scheduler.specs.Step.{decided, pay}
 use Rattle.basis.specs.Tests.{pick}
 use mathlib.Core.Path.{sym, _∙_}
 use native.Mathlib.Omega.{arith}
@@ -8,6 +9,7 @@ use Rattle.scheduler.proofs.walk.decide.Tie as tie
 use Rattle.scheduler.proofs.walk.decide.Reads as reads
 use Rattle.scheduler.proofs.walk.decide.Lts as lts
 use Rattle.scheduler.proofs.State.count.Reads as count-reads
+use Rattle.scheduler.proofs.State.pay.Reads as pay-reads
 use Rattle.scheduler.proofs.walk.runs.Reads as runs-reads
 
 mul-p : tie.Need-mul-p
@@ -16,26 +18,29 @@ mul-p c = search needs
 element-copy-out-p : tie.Need-element-copy-out-p
 element-copy-out-p c = search needs
 
+pay-requires : tie.Need-pay-requires
+pay-requires c κs = search needs
+
 runs-requires : tie.Need-runs-requires
 runs-requires c κs = search needs
 
 count-requires : tie.Need-count-requires
-count-requires c κs = let s = c .before .before .before in omega (arith, s .pre .1 .at (s .args .i))
+count-requires c κs = let s = c .before .before .before .before in let h = pay-each 32 _ (kept-counts 32 999999999) (s .args .i) _ (s .pre .0) (s .pre .2) in (s .pre .0, rw (c .before .before .pay .ensures) (omega (arith, h .at (s .args .i))))
 
 returns : tie.Need-returns
-unfolding pick decided
-returns c = simp (sym (c .before .before .runs .ensures) ∙ c .before .if1 .taken, c .count .ensures)
+unfolding pick decided pay
+returns c = simp (sym (c .before .before .runs .ensures) ∙ c .before .if1 .taken, c .before .before .before .pay .ensures, c .count .ensures)
 
 array-read-if2 : tie.Need-array-read-if2
 array-read-if2 c = search needs
 
 returns-2 : tie.Need-returns-2
-unfolding pick decided
-returns-2 c = simp (sym (c .before .before .runs .ensures) ∙ c .before .if1 .left, c .if2 .taken)
+unfolding pick decided pay
+returns-2 c = simp (sym (c .before .before .runs .ensures) ∙ c .before .if1 .left, c .if2 .taken, c .before .before .before .pay .ensures)
 
 returns-3 : tie.Need-returns-3
-unfolding pick decided
-returns-3 c = simp (sym (c .before .before .runs .ensures) ∙ c .before .if1 .left, c .if2 .left)
+unfolding pick decided pay
+returns-3 c = simp (sym (c .before .before .runs .ensures) ∙ c .before .if1 .left, c .if2 .left, c .before .before .before .pay .ensures)
 
 pub decide-spec : {M : Type 1} → statement M
 decide-spec =
@@ -43,6 +48,7 @@ decide-spec =
     (tie.spec
     mul-p
     element-copy-out-p
+    pay-requires
     runs-requires
     count-requires
     returns

@@ -1,10 +1,14 @@
 use Rattle.flow.specs.Flow.{flows}
 use Rattle.table.specs.Mark.{hidden-below, seen-by, marked}
-use Rattle.basis.proofs.TestLaws.{some-none, some-next, some-hit, some-end}
-use Rattle.basis.specs.Tests.{some}
-use mathlib.Core.Bool.{false}
+use Rattle.basis.proofs.TestLaws.{by-test, some-none, some-next, some-hit, some-end}
+use Rattle.basis.specs.Tests.{and, some}
+use Rattle.table.specs.Threads.{thread}
+use Rattle.table.specs.declared.Table.{Table}
+use lib.Dec.{eqb, ltb}
+use lib.ListN.{getD}
+use mathlib.Core.Bool.{false, not}
 use mathlib.Core.Path.{_≡_, sym, _∙_}
-use Prim.Native.Nat.{_≤_, _-_}
+use Prim.Native.Nat.{ℕ, _-_, _/_, _%_, _^_, _≤_}
 use borrow.Author.Needs.{needs}
 use Rattle.table.proofs.mark.is_marked.Statement.{statement}
 use Rattle.table.proofs.mark.is_marked.Tie as tie
@@ -43,13 +47,20 @@ element-copy-out-b c = search needs
 hides-requires : tie.Need-hides-requires Inv-loop μ-loop
 hides-requires c κs = search needs
 
--- What `hides` answers of a thread of the table.
+-- What `hides` answers of two threads of the table, in whatever words the tests of the mark are joined.
+hidden-same : (t : Table) (i j : ℕ)
+    → and (ltb (thread t j .priority) (thread t i .priority)) (not (eqb (getD (t .rows) (thread t i .domain) 0 / 2 ^ thread t j .domain % 2) 1)) ≡ hidden-below t i j
+unfolding hidden-below seen-by flows
+hidden-same t i j =
+    by-test (ltb (thread t j .priority) (thread t i .priority))
+    (λ e. by-test (flows (t .rows) (thread t i .domain) (thread t j .domain)) (λ f. simp (e, f)) (λ f. simp (e, f)))
+    (λ e. by-test (flows (t .rows) (thread t i .domain) (thread t j .domain)) (λ f. simp (e, f)) (λ f. simp (e, f)))
+
 hidden : (c : tie.After-hides Inv-loop μ-loop)
     → let l = c .before .before .before in
     let a = l .before .before .before .before .args in
     c .hides .result ≡ hidden-below (a .t1) (a .i) (l .loop .j)
-unfolding hidden-below seen-by flows
-hidden c = rw (c .before .before .before .before .row .ensures) at (c .hides .ensures)
+hidden c = (rw (c .before .before .before .before .row .ensures) at (c .hides .ensures)) ∙ hidden-same _ _ _
 
 returns : tie.Need-returns Inv-loop μ-loop
 unfolding marked

@@ -8,11 +8,11 @@ use lib.ListN.{length, getD}
 use lib.Dec.{lit<}
 use Rattle.flow.specs.Flow.{flows}
 use Rattle.table.specs.Mark.{seen-by}
 use Rattle.scheduler.specs.State.{fresh}
 use Rattle.scheduler.specs.Shown.{visible}
 use Rattle.scheduler.specs.Isolated.{calls, shown-of, Same-step, Same-steps, ended, next}
-use Rattle.scheduler.specs.Story.{bench, bench-legal, monitor-sends}
+use Rattle.lessons.specs.Story.{bench, bench-legal, monitor-sends}
 use Rattle.scheduler.proofs.Isolation.{demand-3}
 
 -- The monitor's domain may not flow to the pitch loop's.
 same-step : (x y : ℕ) → Same-step bench 0 (1 ∷ 1 ∷ x ∷ []) (1 ∷ 1 ∷ y ∷ [])

@@ -18,18 +18,18 @@ use Rattle.table.specs.Legal.{taken as priority-taken}
 use Rattle.table.specs.Mark.{seen-by, hidden-below, marked, marks-of}
 use Rattle.table.specs.declared.Table.{Table}
 use Rattle.table.specs.declared.Thread.{Thread}
 use Rattle.scheduler.specs.State.{progress, put, place-fits, fits, fresh}
 use Rattle.scheduler.specs.Order.{holder, down, order}
-use Rattle.scheduler.specs.Step.{at-phase, released, release, pay, finish, heard, runs, count, walked, decided, visit, chosen, walk, tick, ticked, advance, step, step-marks}
+use Rattle.scheduler.specs.Step.{at-phase, released, release, pay, finish, heard, runs, count, walked, decided, visit, chosen, walk, tick, ticked, advance, step}
 use Rattle.scheduler.specs.Taken.{Taken, took, refused-step, rested, taken}
 use Rattle.scheduler.specs.Paid.{releases}
 use Rattle.scheduler.specs.Shown.{visible, view}
 use Rattle.scheduler.specs.Isolated.{answer-of}
 use Rattle.scheduler.specs.declared.Progress.{Progress}
 use Rattle.scheduler.specs.declared.State.{State}
 use Rattle.scheduler.specs.declared.Answer.{Answer}
 use Rattle.scheduler.specs.declared.Answer.the-variants.{Ran, IdleFor, Idle}
 use Rattle.scheduler.specs.declared.Walked.{Walked}
 
 -- What a call of the step gives, by the right rules (`taken`) or by others.
 abbrev pub Call : Type 0
@@ -46,7 +46,7 @@ tells t d r = pick (eqb (r .number) 0) (view t d (answer-of (r .values))) r
 
 -- What d is told of each call of a run from a fresh start. To open it is to open all that a run computes with.
 unfoldable pub trace : Call → Table → ℕ → List (List ℕ) → List Told
-unfolding pick every some first listed flows row-ok broken gap-at gap-by-c gap-by-b first-gap within field-ranges field-range row-legal field-ok thread-ok field-zero thread-zero priority-taken place-legal legal seen-by hidden-below marked marks-of place-fits fits fresh holder down order at-phase released release pay finish heard runs count decided visit walk tick ticked advance step step-marks rested taken releases visible view answer-of run tells
+unfolding pick every some first listed flows row-ok broken gap-at gap-by-c gap-by-b first-gap within field-ranges field-range row-legal field-ok thread-ok field-zero thread-zero priority-taken place-legal legal seen-by hidden-below marked marks-of place-fits fits fresh holder down order at-phase released release pay finish heard runs count decided visit walk tick ticked advance step rested taken releases visible view answer-of run tells
 trace f t d a = map (λ (r : Taken). tells t d (r .told)) (run (f t) a fresh)
 
 -- A call with f for the step, of a table that nobody tests: a state that does not fit is refused.
@@ -73,7 +73,7 @@ walk-same m bs [] s = refl
 walk-same m bs (i ∷ is) s = rw (walk-same m bs is)
 
 pub visiting-same : (t : Table) (bs : List ℕ) (s : State) → visiting visit t bs s ≡ step t bs s
-unfolding visiting step step-marks advance
+unfolding visiting step advance
 visiting-same t bs s = rw (walk-same (marks-of t))
 
 -- A thread of a domain, with a priority, a period and a budget; its offset is 0 and its deadline the period.
@@ -180,29 +180,18 @@ flow-reversed-leaks = refl
 abbrev free : State → ℕ → State
 free s i = s
 
-abbrev settled : State → State → State → Answer → Walked
-settled r p q (Ran i) = walked (Ran i) r
-settled r p q (IdleFor i) = walked (IdleFor i) p
-settled r p q Idle = walked Idle q
-
 -- The visit, but a thread that waits pays by f if marked, and by g if not.
 unfoldable pub paying : (State → ℕ → State) → (State → ℕ → State) → List Bool → ℕ → ℕ → State → Walked
 paying f g m b i s =
-    let w : Walked = decided m b i (heard b i (pay s i)) in
-    pick (eqb (progress s i .rest) 0) (walked Idle s) (settled (w .state) (heard b i (f s i)) (heard b i (g s i)) (w .answer))
+    let r : State = heard b i s in
+    pick (eqb (progress s i .rest) 0) (walked Idle s)
+    (pick (runs b (progress r i)) (walked (Ran i) (count (pay r i) i))
+    (pick (getD m i false) (walked (IdleFor i) (f r i)) (walked Idle (g r i))))
 
 -- Where both pay, it is the visit.
-settled-same : (x y : Bool) (i : ℕ) (r q : State)
-    → let w : Walked = pick x (walked (Ran i) r) (pick y (walked (IdleFor i) q) (walked Idle q)) in
-    settled (w .state) q q (w .answer) ≡ w
-unfolding pick
-settled-same true y i r q = refl
-settled-same false true i r q = refl
-settled-same false false i r q = refl
-
 pub paying-same : (m : List Bool) (b i : ℕ) (s : State) → paying pay pay m b i s ≡ visit m b i s
 unfolding paying visit decided
-paying-same m b i s = rw (settled-same (runs b (progress (heard b i (pay s i)) i)) (getD m i false) i)
+paying-same m b i s = refl
 
 abbrev unpaid-wait : Lesson
 unpaid-wait = seen-from-below (call (visiting (paying free pay)))

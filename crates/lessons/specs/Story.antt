@@ -10,11 +10,11 @@ use Rattle.table.specs.Threads.{none}
 use Rattle.table.specs.Legal.{legal}
 use Rattle.table.specs.Mark.{marks-of}
 use Rattle.table.specs.declared.Table.{Table}
 use Rattle.scheduler.specs.State.{fresh}
 use Rattle.scheduler.specs.Taken.{Taken, values, taken}
-use Rattle.scheduler.specs.Lessons.{Call, run, trace, call, marking, no-marks, gap, shown}
+use Rattle.lessons.specs.Lessons.{Call, run, trace, call, marking, no-marks, gap, shown}
 use Rattle.scheduler.specs.declared.Answer.{Answer}
 use Rattle.scheduler.specs.declared.Answer.the-variants.{Ran, IdleFor, Idle}
 
 -- Domains and threads alike: 0 is the pitch loop, 1 the actuator model, 2 the load monitor. The pitch loop may flow to all, the
 -- actuator model to the monitor, and the monitor to nobody else.
