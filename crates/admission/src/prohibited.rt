@@ -10,7 +10,7 @@ use table::mark_all;
 
 // What thread h, with its mark, brings to own's prohibition time.
 fn stretch(own: Thread, mark: bool, h: Thread) -> u64
-    requires { ⌜ 1 ≤ own .period ⌝ }
+    requires { ⌜ (1 ≤ own .period) × (1 ≤ h .period) ⌝ }
     ensures { λ r. ⌜ r ≡ the-stretch own mark h ⌝ }
 {
     if !mark {

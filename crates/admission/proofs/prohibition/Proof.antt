@@ -4,6 +4,7 @@ use Rattle.table.proofs.LegalLaws.{legal-sound}
 use Rattle.basis.specs.Tests.{pick}
 use Rattle.basis.proofs.ListLaws.{long-of}
 use borrow.Author.Tests.{not-true, not-false, lt-ltb, le-ltb}
+use native.Mathlib.Omega.{arith}
 use mathlib.Core.Bool.{true}
 use mathlib.Core.Path.{_≡_, sym, _∙_}
 use borrow.Author.Needs.{needs}
@@ -31,12 +32,14 @@ returns c = rw (sym (c .before .legal .ensures) ∙ not-true _ (c .if1 .taken))
 
 returns-2 : tie.Need-returns-2
 unfolding prohibiting pick
-returns-2 c = rw (lawful (c .before .before), le-ltb _ _ (c .if2 .taken))
+returns-2 c =
+    let a = c .before .before .before .before .args in
+    rw (lawful (c .before .before), le-ltb (a .l) (a .t .count) (omega arith))
 
 prohibition-time-requires : tie.Need-prohibition-time-requires
 prohibition-time-requires c κs =
     let e = c .before .before in
-    (legal-sound _ (sized (e .before .before)) (lawful e), c .if2 .left)
+    (legal-sound _ (sized (e .before .before)) (lawful e), omega arith)
 
 returns-3 : tie.Need-returns-3
 unfolding prohibiting pick

@@ -28,7 +28,7 @@ loop-holds : tie.Need-loop-holds Inv-loop μ-loop
 loop-holds c = (search needs, first-none _, listed-none _ 0 32)
 
 find-bound-requires : tie.Need-find-bound-requires Inv-loop μ-loop
-find-bound-requires c κs = (c .before .before .pre, c .loop-test .taken)
+find-bound-requires c κs = (c .before .before .pre, omega arith)
 
 enum-known-found : tie.Need-enum-known-found Inv-loop μ-loop
 enum-known-found c = search needs

@@ -52,8 +52,8 @@ returns c =
     let l = c .before .before .before .loop in
     sym (bound-at (s .args .t1) (s .args .i) (l .x) (record {
       from-budget = l .inv .0;
-      to-deadline = c .before .before .loop-test .taken;
-      holds = rw (c .before .demand .ensures) at (c .if1 .taken);
+      to-deadline = omega arith;
+      holds = omega (arith, c .before .demand .ensures);
       smallest = l .inv .1;
     }))
 

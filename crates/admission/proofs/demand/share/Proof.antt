@@ -11,7 +11,9 @@ use Rattle.admission.proofs.demand.share.Lts as lts
 use Rattle.basis.proofs.rounded_up.Reads as rounded-up-reads
 
 returns : tie.Need-returns
-returns c = sym (share-other _ _ _ (c .if1 .taken))
+returns c =
+    let a = c .before .before .before .args in
+    sym (share-other (a .own) (a .h) (a .x) (omega arith))
 
 cast-rounded-up : tie.Need-cast-rounded-up
 cast-rounded-up c = search needs
@@ -23,10 +25,12 @@ cast-result : tie.Need-cast-result
 cast-result c = search needs
 
 mul-result : tie.Need-mul-result
-mul-result c = record { fits = rw (c .before .rounded-up .ensures) (product-fits _ _ _ (c .before .before .before .before .before .before .pre) (omega arith) (omega arith)) }
+mul-result c = record { fits = rw (c .before .rounded-up .ensures) (product-fits _ _ _ (omega arith) (omega arith) (omega arith)) }
 
 returns-2 : tie.Need-returns-2
-returns-2 c = rw (c .before .rounded-up .ensures) (sym (share-above _ _ _ (c .before .before .before .if1 .left)))
+returns-2 c =
+    let a = c .before .before .before .before .before .before .args in
+    rw (c .before .rounded-up .ensures) (sym (share-above (a .own) (a .h) (a .x) (omega arith)))
 
 pub share-spec : {M : Type 1} → statement M
 share-spec =

@@ -55,7 +55,9 @@ element-copy-out-upper : tie.Need-element-copy-out-upper Inv-loop μ-loop
 element-copy-out-upper c = search needs
 
 stretch-requires : tie.Need-stretch-requires Inv-loop μ-loop
-stretch-requires c κs = let s = c .before .before .before .before .before in s .pre .0 .threads _ (s .pre .1) .period-low
+stretch-requires c κs =
+    let s = c .before .before .before .before .before in
+    (s .pre .0 .threads _ (s .pre .1) .period-low, s .pre .0 .threads _ (c .before .loop-test .taken) .period-low)
 
 -- What the thread at hand brings, by the table's own mark.
 brought : (c : tie.After-stretch Inv-loop μ-loop) → let s = c .before .before .before .before .before .before in

@@ -15,7 +15,9 @@ returns : tie.Need-returns
 returns c = sym (stretch-unmarked _ _ _ (not-true _ (c .if1 .taken)))
 
 returns-2 : tie.Need-returns-2
-returns-2 c = sym (stretch-other _ _ _ (c .if2 .taken))
+returns-2 c =
+    let a = c .before .before .before .before .args in
+    sym (stretch-other (a .own) (a .h) (a .mark) (omega arith))
 
 cast-rounded-up : tie.Need-cast-rounded-up
 cast-rounded-up c = search needs
@@ -30,10 +32,12 @@ cast-result : tie.Need-cast-result
 cast-result c = search needs
 
 mul-result : tie.Need-mul-result
-mul-result c = record { fits = rw (c .before .rounded-up .ensures) (product-fits _ _ _ (c .before .before .before .before .before .before .before .before .pre) (omega arith) (omega arith)) }
+mul-result c = record { fits = rw (c .before .rounded-up .ensures) (product-fits _ _ _ (omega arith) (omega arith) (omega arith)) }
 
 returns-3 : tie.Need-returns-3
-returns-3 c = rw (c .before .rounded-up .ensures) (sym (stretch-above _ _ _ (not-false _ (c .before .before .before .before .before .before .before .if1 .left)) (c .before .before .before .before .if2 .left)))
+returns-3 c =
+    let a = c .before .before .before .before .before .before .before .before .args in
+    rw (c .before .rounded-up .ensures) (sym (stretch-above (a .own) (a .h) (a .mark) (not-false _ (c .before .before .before .before .before .before .before .if1 .left)) (omega arith)))
 
 pub stretch-spec : {M : Type 1} → statement M
 stretch-spec =
