@@ -16,6 +16,10 @@ later = record { domain = 1; priority = 30; period = 10; offset = 3; budget = 4;
 abbrev pub lower : Thread
 lower = record { domain = 0; priority = 20; period = 10; offset = 0; budget = 3; deadline = 10; blocking = 0 }
 
+-- The same with another budget.
+abbrev pub lower-with : ℕ → Thread
+lower-with w = record { domain = 0; priority = 20; period = 10; offset = 0; budget = w; deadline = 10; blocking = 0 }
+
 -- Two domains with these rows and two threads.
 abbrev pub two : ℕ → ℕ → Thread → Thread → Table
 two a b x y = record { domains = 2; count = 2; rows = a ∷ b ∷ replicate 14 0; threads = x ∷ y ∷ replicate 30 none }

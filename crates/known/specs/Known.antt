@@ -7,6 +7,7 @@ use lib.ListN.{set, take, replicate}
 use Rattle.basis.specs.Tests.{pick, every, some}
 use Rattle.basis.specs.Search.{first, listed}
 use Rattle.basis.specs.Told.{Told}
+use Rattle.basis.specs.Ceil.{ceil}
 use Rattle.flow.specs.Flow.{flows, row-ok}
 use Rattle.flow.specs.Gap.{broken, gap-at, gap-by-c, gap-by-b, first-gap, gap-told}
 use Rattle.table.specs.declared.Table.{Table}
@@ -23,7 +24,11 @@ use Rattle.scheduler.specs.Order.{holder, down, order}
 use Rattle.scheduler.specs.Step.{at-phase, released, release, pay, finish, heard, runs, count, decided, visit, walk, tick, ticked, advance, step}
 use Rattle.scheduler.specs.Taken.{rested, taken as step-taken}
 use Rattle.scheduler.specs.Shown.{visible, view, showing}
-use Rattle.known.specs.Example.{example, example-bytes, later, lower, row-too-many, two, upper, written-out}
+use Rattle.admission.specs.Demand.{sum, above, share, demand}
+use Rattle.admission.specs.Bounded.{enough, length-at, bound, bounding}
+use Rattle.admission.specs.Admit.{without-bound, first-without, bound-number, bounds-of, admitting, bounds-given}
+use Rattle.admission.specs.Prohibition.{stretch, prohibition, prohibiting}
+use Rattle.known.specs.Example.{example, example-bytes, later, lower, lower-with, row-too-many, two, upper, written-out}
 use Rattle.known.specs.Runs.{ran, idle-for, idle, run, answers-from, answers, after, left-after, resting, shown-to, short-deadlines}
 
 -- A statement of document 01: what the definitions compute, and what was found by hand.
@@ -54,6 +59,10 @@ marks-told t = flat (marking t) ++ map (λ (m : Bool). pick m 1 0) (marks-given 
 -- What `write` tells of a table in a buffer from a place on, and then what the buffer holds.
 abbrev write-told : List ℕ → ℕ → Table → List ℕ
 write-told b at t = flat (writing b at t) ++ written b at t
+
+-- What `admit` tells of a table, and then the 32 bounds.
+abbrev admit-told : Table → List ℕ
+admit-told t = flat (admitting t) ++ bounds-given t
 
 -- Thread 0 runs, waits twice, finishes, and then sends 1; and what E answers.
 abbrev waiting : List ℕ
@@ -149,6 +158,24 @@ known =
       computed = answers (two 3 3 upper lower) waiting;
       by-hand = ran 0 ∷ ran 1 ∷ ran 1 ∷ ran 1 ∷ replicate 6 idle;
     }
+    -- K-5: E's bounds are 4 and 7, and the prohibition time of thread 1 is 2; that of thread 0, with nobody above it, is 0
+    ∷ record { computed = admit-told example; by-hand = 0 ∷ 4 ∷ 7 ∷ replicate 30 0 }
+    ∷ record { computed = flat (bounding example 0); by-hand = 0 ∷ 4 ∷ [] }
+    ∷ record { computed = flat (bounding example 1); by-hand = 0 ∷ 7 ∷ [] }
+    ∷ record { computed = flat (prohibiting example 1); by-hand = 0 ∷ 2 ∷ [] }
+    ∷ record { computed = flat (prohibiting example 0); by-hand = 0 ∷ 0 ∷ [] }
+    -- K-6: E with thread 1's budget 6 has the bound 10; with 7 thread 1 has none, and no bound is given
+    ∷ record { computed = admit-told (two 3 2 upper (lower-with 6)); by-hand = 0 ∷ 4 ∷ 10 ∷ replicate 30 0 }
+    ∷ record { computed = flat (bounding (two 3 2 upper (lower-with 7)) 1); by-hand = 0 ∷ [] }
+    ∷ record { computed = admit-told (two 3 2 upper (lower-with 7)); by-hand = 0 ∷ 1 ∷ replicate 32 0 }
+    -- without marks there is no prohibition time
+    ∷ record { computed = flat (prohibiting (two 3 3 upper lower) 1); by-hand = 0 ∷ 0 ∷ [] }
+    -- 15 for thread 2, which E lacks; 11 first for a table that is not legal
+    ∷ record { computed = flat (bounding example 2); by-hand = 15 ∷ [] }
+    ∷ record { computed = flat (prohibiting example 2); by-hand = 15 ∷ [] }
+    ∷ record { computed = admit-told row-too-many; by-hand = 11 ∷ replicate 32 0 }
+    ∷ record { computed = flat (bounding row-too-many 2); by-hand = 11 ∷ [] }
+    ∷ record { computed = flat (prohibiting row-too-many 2); by-hand = 11 ∷ [] }
     -- K-9: thread 1 loses its last step
     ∷ record { computed = answers short-deadlines (replicate 4 1); by-hand = ran 0 ∷ ran 1 ∷ ran 1 ∷ idle ∷ [] }
     -- K-10: step bytes 3 and 255 act as 0
@@ -171,5 +198,5 @@ known =
 
 -- The one claim.
 pub all-known : map (λ (e : Entry). e .computed) known ≡ map (λ (e : Entry). e .by-hand) known
-unfolding pick every some first listed flows row-ok broken gap-at gap-by-c gap-by-b first-gap within field-ranges field-range row-legal field-ok thread-ok field-zero thread-zero taken place-legal legal seen-by hidden-below marked marks-of marking marks-given third second number number-at encode encode-all row-numbers thread-numbers numbers bytes overlaid writing written number-from judged ranged row-from rows-from free field-from fields-from threads-from ended after-rows version-from domains-from count-from reading fresh place-fits fits holder down order at-phase released release pay finish heard runs count decided visit walk tick ticked advance step rested step-taken visible view showing run after
+unfolding pick every some first listed flows row-ok broken gap-at gap-by-c gap-by-b first-gap within field-ranges field-range row-legal field-ok thread-ok field-zero thread-zero taken place-legal legal seen-by hidden-below marked marks-of marking marks-given third second number number-at encode encode-all row-numbers thread-numbers numbers bytes overlaid writing written number-from judged ranged row-from rows-from free field-from fields-from threads-from ended after-rows version-from domains-from count-from reading fresh place-fits fits holder down order at-phase released release pay finish heard runs count decided visit walk tick ticked advance step rested step-taken visible view showing ceil sum above share demand enough length-at bound bounding without-bound first-without bound-number bounds-of admitting bounds-given stretch prohibition prohibiting run after
 all-known = refl

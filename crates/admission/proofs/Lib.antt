@@ -1,0 +1,9 @@
+pub mod SumLaws
+pub mod QuotientLaws
+pub mod DemandLaws
+pub mod BoundLaws
+pub mod UpperLaws
+pub mod AdmitLaws
+pub mod ProhibitionLaws
+pub mod UniqueLaws
+pub mod LargestLaws

@@ -1,0 +1,78 @@
+-- No second answer fits `admit`, `bound_of` or `prohibition`: from what an answer tells, the answer can be read back.
+use Prim.Native.Nat.{ℕ}
+use mathlib.Core.Path.{_≡_, refl, sym, _∙_, ap}
+use mathlib.Core.List.{List, [], _∷_}
+use lib.Dec.{eqb}
+use Rattle.basis.specs.Tests.{pick}
+use Rattle.basis.specs.Told.{Told}
+use Rattle.table.specs.declared.Table.{Table}
+use Rattle.admission.specs.declared.Bound.{Bound}
+use Rattle.admission.specs.declared.Bound.the-variants.{Within, None, NotLegal, NoThread}
+use Rattle.admission.specs.declared.Admitting.{Admitting}
+use Rattle.admission.specs.declared.Admitting.the-variants.{Admitted, Without, NotLegal as IllegalTable}
+use Rattle.admission.specs.declared.Admission.{Admission}
+use Rattle.admission.specs.declared.ProhibitionTime.{ProhibitionTime}
+use Rattle.admission.specs.declared.ProhibitionTime.the-variants.{Steps, NotLegal as TableNotLegal, NoThread as NoSuchThread}
+use Rattle.admission.specs.Bounded.{told, bounding}
+use Rattle.admission.specs.Admit.{told as told-admitting, admitting, bounds-given}
+use Rattle.admission.specs.Prohibition.{told as told-time, prohibiting}
+
+-- A map that can be undone tells its arguments apart.
+undone : {A B : Type 0} (f : A → B) (back : B → A) → ((a : A) → back (f a) ≡ a) → (a b : A) → f a ≡ f b → a ≡ b
+undone f back h a b e = sym (h a) ∙ ap back e ∙ h b
+
+-- A bound, read back.
+bound-back : ℕ → List ℕ → Bound
+bound-back n [] = pick (eqb n 0) None (pick (eqb n 11) NotLegal NoThread)
+bound-back n (x ∷ vs) = Within x
+
+bound-same : (b : Bound) → bound-back (told b .number) (told b .values) ≡ b
+unfolding bound-back pick
+bound-same (Within x) = refl
+bound-same None = refl
+bound-same NotLegal = refl
+bound-same NoThread = refl
+
+pub bound-injective : (a b : Bound) → told a ≡ told b → a ≡ b
+bound-injective = undone told (λ w. bound-back (w .number) (w .values)) bound-same
+
+pub bound-of-unique : (t : Table) (i : ℕ) (r q : Bound) → told r ≡ bounding t i → told q ≡ bounding t i → r ≡ q
+bound-of-unique t i r q e f = bound-injective r q (e ∙ sym f)
+
+-- An admission's answer, read back.
+admitting-back : ℕ → List ℕ → Admitting
+admitting-back n [] = pick (eqb n 0) Admitted IllegalTable
+admitting-back n (i ∷ vs) = Without i
+
+admitting-same : (a : Admitting) → admitting-back (told-admitting a .number) (told-admitting a .values) ≡ a
+unfolding admitting-back pick
+admitting-same Admitted = refl
+admitting-same (Without i) = refl
+admitting-same IllegalTable = refl
+
+pub admitting-injective : (a b : Admitting) → told-admitting a ≡ told-admitting b → a ≡ b
+admitting-injective = undone told-admitting (λ w. admitting-back (w .number) (w .values)) admitting-same
+
+pub admit-unique : (t : Table) (r q : Admission) → (told-admitting (r .answer) ≡ admitting t) × (r .bounds ≡ bounds-given t)
+    → (told-admitting (q .answer) ≡ admitting t) × (q .bounds ≡ bounds-given t) → r ≡ q
+admit-unique t r q e f =
+    let a : r .answer ≡ q .answer = admitting-injective _ _ (e .0 ∙ sym (f .0)) in
+    let b : r .bounds ≡ q .bounds = e .1 ∙ sym (f .1) in
+    λ k. record { answer = a k; bounds = b k }
+
+-- A prohibition time, read back.
+time-back : ℕ → List ℕ → ProhibitionTime
+time-back n [] = pick (eqb n 11) TableNotLegal NoSuchThread
+time-back n (x ∷ vs) = Steps x
+
+time-same : (p : ProhibitionTime) → time-back (told-time p .number) (told-time p .values) ≡ p
+unfolding time-back pick
+time-same (Steps n) = refl
+time-same TableNotLegal = refl
+time-same NoSuchThread = refl
+
+pub time-injective : (a b : ProhibitionTime) → told-time a ≡ told-time b → a ≡ b
+time-injective = undone told-time (λ w. time-back (w .number) (w .values)) time-same
+
+pub prohibition-unique : (t : Table) (l : ℕ) (r q : ProhibitionTime) → told-time r ≡ prohibiting t l → told-time q ≡ prohibiting t l → r ≡ q
+prohibition-unique t l r q e f = time-injective r q (e ∙ sym f)

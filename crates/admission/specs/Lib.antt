@@ -1,0 +1,4 @@
+pub mod Demand
+pub mod Bounded
+pub mod Admit
+pub mod Prohibition
