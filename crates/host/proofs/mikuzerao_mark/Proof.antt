@@ -1,0 +1,71 @@
+use mathlib.Core.Path.{_≡_, sym, ap, _∙_}
+use mathlib.Core.Logic.{_≢_}
+use native.Mathlib.Omega.{arith}
+use Prim.Native.Nat.{_≤_, _<_}
+use Rattle.reader.specs.Reader.{Read, reading}
+use Rattle.host.specs.Host.{verdict, refusal, thread-mark, thread-bound, bound-number}
+use Rattle.host.proofs.HostLaws.{unread, lacking, answering}
+use borrow.Author.Needs.{needs}
+use Rattle.host.proofs.mikuzerao_mark.Statement.{statement}
+use Rattle.host.proofs.mikuzerao_mark.Tie as tie
+use Rattle.host.proofs.mikuzerao_mark.Reads as reads
+use Rattle.host.proofs.mikuzerao_mark.Lts as lts
+use Rattle.codec.proofs.read.Reads as read-reads
+use Rattle.host.proofs.mark_number.Reads as mark-number-reads
+use Rattle.host.proofs.number_of.Reads as number-of-reads
+
+-- What the reader told: the number, and the table.
+number : (c : tie.After-number-of) → c .number-of .result ≡ verdict (c .before .before .before .args .bytes .now)
+unfolding verdict
+number c = c .number-of .ensures .0 ∙ ap (λ (r : Read). r .told .number) (c .before .read .ensures)
+
+counted : (c : tie.After-number-of) → c .before .read .result .table ≡ reading (c .before .before .before .args .bytes .now) .table
+counted c = ap (λ (r : Read). r .table) (c .before .read .ensures)
+
+read-requires : tie.Need-read-requires
+read-requires c κs = search needs
+
+number-of-requires : tie.Need-number-of-requires
+number-of-requires c κs = search needs
+
+refused-requires : tie.Need-refused-requires
+refused-requires c κs = c .before .number-of .ensures .1
+
+returns : tie.Need-returns
+unfolding thread-mark
+returns c = let n = number (c .before .before) in c .refused .ensures ∙ ap refusal n ∙ sym (unread _ _ _ (λ e. c .before .if1 .taken (n ∙ e)))
+
+cast-if2 : tie.Need-cast-if2
+cast-if2 c = search needs
+
+refused-requires-2 : tie.Need-refused-requires-2
+refused-requires-2 c κs = omega arith
+
+returns-2 : tie.Need-returns-2
+unfolding thread-mark
+returns-2 c = let n = c .before .before .before .before .before in c .refused2 .ensures ∙ sym (lacking _ _ _ (sym (number n) ∙ c .before .before .before .before .if1 .left) (rw (counted n) at (c .before .if2 .taken)))
+
+cast-mark-number : tie.Need-cast-mark-number
+cast-mark-number c = search needs
+
+mark-number-requires : tie.Need-mark-number-requires
+mark-number-requires c κs = search needs
+
+returns-3 : tie.Need-returns-3
+unfolding thread-mark
+returns-3 c = let n = c .before .before .before .before .before in c .mark-number .ensures ∙ rw (counted n) (sym (answering _ _ _ (sym (number n) ∙ c .before .before .before .before .if1 .left) (rw (counted n) at (c .before .if2 .left))))
+
+pub mikuzerao-mark-spec : {M : Type 1} → statement M
+mikuzerao-mark-spec =
+    tie.close
+    (tie.spec
+    read-requires
+    number-of-requires
+    refused-requires
+    returns
+    cast-if2
+    refused-requires-2
+    returns-2
+    cast-mark-number
+    mark-number-requires
+    returns-3)
