@@ -1,8 +1,8 @@
 -- Admission gives exactly what the rows of `Admit-answer` say: every bound, or the first thread that has none.
 use Prim.Native.Nat.{ℕ, _-_, _≤_, _<_}
-use mathlib.Core.Path.{_≡_, refl, sym, _∙_, ap, subst}
-use mathlib.Core.Bool.{true, false}
-use mathlib.Core.List.{List, _++_}
+use mathlib.Core.Path.{_≡_, refl, sym, _∙_, subst}
+use mathlib.Core.Bool.{true}
+use mathlib.Core.List.{List}
 use mathlib.Core.Logic.{_↔_}
 use native.Mathlib.Omega.{arith}
 use borrow.Author.Tests.{ltb-true, ltb-false}
@@ -18,7 +18,7 @@ use Rattle.table.specs.Legal.{legal}
 use Rattle.table.specs.declared.Table.{Table}
 use Rattle.table.proofs.LegalLaws.{legal-small}
 use Rattle.admission.specs.Bounded.{bound, Is-bound, No-bound}
-use Rattle.admission.specs.Admit.{lacking, without-bound, first-without, or-zero, bound-number, bounds-of, admitting, bounds-given, unless, Has-bound, Admit-answer, not-legal, without, admitted}
+use Rattle.admission.specs.Admit.{lacking, without-bound, first-without, bound-number, bounds-of, admitting, bounds-given, Has-bound, Admit-answer, not-legal, without, admitted}
 use Rattle.admission.proofs.BoundLaws.{bound-at, bound-none, is-of-bound, none-of-bound}
 
 module _ (t : Table) where

@@ -1,7 +1,7 @@
 -- A bound is exactly the smallest length from W to D that holds its demand, and none is exactly that no length does;
 -- how the search comes to it: since the demand grows, no length below the demand of a short one holds its own.
 use Prim.Native.Nat.{ℕ, suc, _≤_, _<_}
-use mathlib.Core.Path.{_≡_, refl, sym, _∙_, ap, subst}
+use mathlib.Core.Path.{_≡_, refl, sym, subst}
 use mathlib.Core.Bool.{Bool, true, false}
 use mathlib.Core.Logic.{_↔_}
 use native.Mathlib.Decide.{decLt}
@@ -9,7 +9,7 @@ use native.Mathlib.Omega.{arith}
 use lib.Dec.{ltb, leb}
 use borrow.Author.Tests.{le-leb, lt-leb, leb-true, leb-false, lt-ltb, le-ltb, ltb-true, ltb-false}
 use Rattle.basis.specs.Tests.{pick, and}
-use Rattle.basis.specs.Search.{Sought, nothing, found, first}
+use Rattle.basis.specs.Search.{Sought, nothing, found}
 use Rattle.basis.specs.Told.{Told}
 use Rattle.basis.proofs.TestLaws.{by-test, and-both}
 use Rattle.basis.proofs.SearchLaws.{first-nothing, first-all, first-found, first-hit, Found-at}
@@ -17,7 +17,7 @@ use Rattle.table.specs.Threads.{thread}
 use Rattle.table.specs.Legal.{legal, Legal}
 use Rattle.table.specs.declared.Table.{Table}
 use Rattle.admission.specs.Demand.{demand}
-use Rattle.admission.specs.Bounded.{enough, length-at, bound, sought-told, bounding, Is-bound, No-bound, Bound-answer, not-legal, no-thread, no-bound, within}
+use Rattle.admission.specs.Bounded.{enough, length-at, bound, bounding, Is-bound, No-bound, Bound-answer, not-legal, no-thread, no-bound, within}
 use Rattle.admission.proofs.DemandLaws.{demand-mono}
 
 module _ (t : Table) (i : ℕ) where
@@ -126,6 +126,10 @@ module _ (t : Table) (i : ℕ) where
   pub bounding-exactly : (w : Told) → (bounding t i ≡ w) ↔ Bound-answer t i w
   bounding-exactly w = (λ e. subst (λ (v : Told). Bound-answer t i v) e answer-given, λ r. answer-only r)
 
-  -- a bound is at least 1, so that 0 can stand for none
+  -- a bound is from 1 to 60,000, so that 0 can stand for none and a larger number for a refusal
   pub bound-positive : Legal t → i < t .count → (x : ℕ) → bound t i ≡ found x → 1 ≤ x
   bound-positive g l x e = omega (arith, is-of-bound x e .from-budget, g .threads i l .budget-low)
+
+  pub bound-high : Legal t → i < t .count → (x : ℕ) → bound t i ≡ found x → x ≤ 60000
+  bound-high g l x e =
+      omega (arith, is-of-bound x e .to-deadline, g .threads i l .deadline-high, g .threads i l .period-high)

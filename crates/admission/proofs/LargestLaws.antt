@@ -1,8 +1,8 @@
 -- Tables that reach the largest demand and the largest prohibition time, so that neither number can be lowered.
-use Prim.Native.Nat.{ℕ, _+_, _*_, _≤_}
+use Prim.Native.Nat.{ℕ, _+_}
 use native.Mathlib.Omega.{arith}
 use mathlib.Core.Path.{_≡_, refl}
-use mathlib.Core.List.{List, [], _∷_, _++_}
+use mathlib.Core.List.{[], _∷_, _++_}
 use mathlib.Core.Bool.{true}
 use lib.ListN.{replicate}
 use Rattle.basis.specs.Tests.{pick, every, some}

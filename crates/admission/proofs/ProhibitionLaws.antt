@@ -1,6 +1,6 @@
 -- The prohibition time is what the plain rows say, and the largest of any legal table, which no sum on the way passes.
-use Prim.Native.Nat.{ℕ, _+_, _*_, _≤_, _<_}
-use mathlib.Core.Path.{_≡_, refl, sym, _∙_, subst}
+use Prim.Native.Nat.{ℕ, _*_, _≤_, _<_}
+use mathlib.Core.Path.{_≡_, sym, _∙_, subst}
 use mathlib.Core.Bool.{Bool, true, false, true≢false}
 use mathlib.Core.Logic.{_↔_}
 use native.Mathlib.Nat.{le-refl, le-trans, mul-le-mul}
@@ -10,10 +10,10 @@ use borrow.Author.Tests.{lt-ltb, le-ltb, ltb-true, ltb-false}
 use Rattle.basis.specs.Tests.{pick, and}
 use Rattle.basis.specs.Ceil.{ceil}
 use Rattle.basis.specs.Told.{Told}
-use Rattle.basis.proofs.TestLaws.{by-test, either, and-false, fails}
+use Rattle.basis.proofs.TestLaws.{by-test, either, and-false}
 use Rattle.table.specs.Threads.{thread}
 use Rattle.table.specs.Legal.{legal, Legal, Legal-thread}
-use Rattle.table.specs.Mark.{marked, Leaks}
+use Rattle.table.specs.Mark.{marked}
 use Rattle.table.specs.declared.Table.{Table}
 use Rattle.table.specs.declared.Thread.{Thread}
 use Rattle.table.proofs.MarkLaws.{mark-sound, mark-complete}

@@ -1,6 +1,6 @@
 -- Laws of a sum over the threads: it grows with its terms and with their number, and is no more than as many times the largest.
 use Prim.Native.Nat.{ℕ, zero, suc, _+_, _*_, _≤_, _<_}
-use mathlib.Core.Path.{_≡_, refl, sym, _∙_}
+use mathlib.Core.Path.{_≡_, refl}
 use mathlib.Core.Logic.{⊎-elim}
 use native.Mathlib.Decide.{le-ind}
 use native.Mathlib.Nat.{le-refl, eq-or-lt-of-le, suc-mul}

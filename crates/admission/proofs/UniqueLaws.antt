@@ -4,7 +4,6 @@ use mathlib.Core.Path.{_≡_, refl, sym, _∙_, ap}
 use mathlib.Core.List.{List, [], _∷_}
 use lib.Dec.{eqb}
 use Rattle.basis.specs.Tests.{pick}
-use Rattle.basis.specs.Told.{Told}
 use Rattle.table.specs.declared.Table.{Table}
 use Rattle.admission.specs.declared.Bound.{Bound}
 use Rattle.admission.specs.declared.Bound.the-variants.{Within, None, NotLegal, NoThread}

@@ -1,8 +1,7 @@
 -- A bound does not depend on the threads below: two legal tables that agree on a thread and on those above it give it the same bound.
 use Prim.Native.Nat.{ℕ, zero, suc, _+_, _≤_, _<_}
 use mathlib.Core.Path.{_≡_, refl, sym, _∙_, ap}
-use mathlib.Core.Bool.{Bool, true, false}
-use native.Mathlib.Nat.{le-refl}
+use mathlib.Core.Bool.{false}
 use native.Mathlib.Decide.{decLt}
 use native.Mathlib.Omega.{arith}
 use borrow.Author.Tests.{lt-ltb, ltb-true, ltb-false}
@@ -16,7 +15,7 @@ use Rattle.table.specs.declared.Table.{Table}
 use Rattle.table.specs.declared.Thread.{Thread}
 use Rattle.table.proofs.LegalLaws.{legal-complete}
 use Rattle.admission.specs.Demand.{sum, share, demand}
-use Rattle.admission.specs.Bounded.{enough, length-at, bound, bounding}
+use Rattle.admission.specs.Bounded.{enough, length-at, bound, bounding, Same-above}
 use Rattle.admission.proofs.SumLaws.{sum-same, sum-padded}
 use Rattle.admission.proofs.DemandLaws.{share-other}
 
@@ -25,12 +24,6 @@ first-same : {A : Type 0} (f g : ℕ → Sought A) (n : ℕ) → ((k : ℕ) → 
 unfolding first
 first-same f g zero h = refl
 first-same f g (suc n) h = rw (first-same f g n h, h n)
-
--- Two tables agree on thread i and, place by place, on every thread that stands above it in one of them.
-pub record Same-above (t u : Table) (i : ℕ) : Type 0 where
-  pub own : thread t i ≡ thread u i
-  pub one : (h : ℕ) → thread t i .priority < thread t h .priority → thread t h ≡ thread u h
-  pub other : (h : ℕ) → thread u i .priority < thread u h .priority → thread t h ≡ thread u h
 
 -- A place that is not in use stands above nobody.
 past : (t : Table) → Legal t → (own : Thread) (x h : ℕ) → t .count ≤ h → share own x (thread t h) ≡ 0

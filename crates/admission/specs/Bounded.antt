@@ -1,7 +1,7 @@
 -- The bound of a thread: the smallest x from W to D whose demand is at most x.
 use Prim.Native.Nat.{ℕ, suc, _≤_, _<_}
 use mathlib.Core.Path.{_≡_}
-use mathlib.Core.List.{List, [], _∷_}
+use mathlib.Core.List.{[], _∷_}
 use mathlib.Core.Bool.{Bool, true, false}
 use lib.Dec.{ltb, leb}
 use Rattle.basis.specs.Tests.{pick, and}
@@ -69,3 +69,9 @@ pub data Bound-answer (t : Table) (i : ℕ) : Told → Type 0 where
   no-bound : legal t ≡ true → i < t .count → No-bound t i → Bound-answer t i (answered [])
   -- its bound is x
   within : legal t ≡ true → i < t .count → (x : ℕ) → Is-bound t i x → Bound-answer t i (answered (x ∷ []))
+
+-- Two tables agree on thread i and, place by place, on every thread that stands above it in one of them.
+pub record Same-above (t u : Table) (i : ℕ) : Type 0 where
+  pub own : thread t i ≡ thread u i
+  pub one : (h : ℕ) → thread t i .priority < thread t h .priority → thread t h ≡ thread u h
+  pub other : (h : ℕ) → thread u i .priority < thread u h .priority → thread t h ≡ thread u h

@@ -1,7 +1,7 @@
 -- The prohibition time of a thread: document 003, equation 1, as printed.
 use Prim.Native.Nat.{ℕ, _*_, _≤_, _<_}
 use mathlib.Core.Path.{_≡_}
-use mathlib.Core.List.{List, [], _∷_}
+use mathlib.Core.List.{[], _∷_}
 use mathlib.Core.Bool.{Bool, true, false}
 use lib.Dec.{ltb}
 use Rattle.basis.specs.Tests.{pick, and}

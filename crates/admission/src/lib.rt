@@ -1,6 +1,5 @@
 // Admission: the bound of each thread by time-demand analysis, and the prohibition time beside it.
 ghost use mathlib.Core.Path.{_≡_};
-ghost use lib.ListN.{replicate};
 ghost use Rattle.admission.specs.Bounded.{told, bounding};
 ghost use Rattle.admission.specs.Admit.{told as told-admitting, admitting, bounds-given};
 ghost use Rattle.admission.specs.Prohibition.{told as told-time, prohibiting};
@@ -49,7 +48,7 @@ pub enum ProhibitionTime {
     NoThread,
 }
 
-// The bounds of all threads, or the first thread that has none: 11.
+// All bounds, or the first thread that has none; refuses with 11.
 pub fn admit(t: Table) -> Admission
     ensures { λ r. ⌜ (told-admitting (r .answer) ≡ admitting t) × (r .bounds ≡ bounds-given t) ⌝ }
 {
@@ -62,7 +61,7 @@ pub fn admit(t: Table) -> Admission
     admit_legal(t)
 }
 
-// The bound of thread i, or none: 11, 15.
+// The bound of thread i, or none; refuses with 11, 15.
 pub fn bound_of(t: Table, i: u8) -> Bound
     ensures { λ r. ⌜ told r ≡ bounding t i ⌝ }
 {
@@ -79,7 +78,7 @@ pub fn bound_of(t: Table, i: u8) -> Bound
     }
 }
 
-// The prohibition time of thread l: 11, 15.
+// The prohibition time of thread l; refuses with 11, 15.
 pub fn prohibition(t: Table, l: u8) -> ProhibitionTime
     ensures { λ r. ⌜ told-time r ≡ prohibiting t l ⌝ }
 {

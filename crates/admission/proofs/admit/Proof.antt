@@ -1,5 +1,5 @@
 use Rattle.admission.specs.Admit.{admitting, bounds-given}
-use Rattle.table.specs.Legal.{legal, Sized, Legal}
+use Rattle.table.specs.Legal.{legal, Sized}
 use Rattle.table.proofs.LegalLaws.{legal-sound}
 use Rattle.basis.specs.Tests.{pick}
 use Rattle.basis.proofs.ListLaws.{long-of}

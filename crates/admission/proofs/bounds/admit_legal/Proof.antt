@@ -1,5 +1,5 @@
 -- The bounds meet their contract. The loop's invariant: every thread before i has a bound, and these stand in the array.
-use Prim.Native.Nat.{ℕ, _+_, _-_, _≤_, _<_}
+use Prim.Native.Nat.{_+_, _-_, _≤_}
 use mathlib.Core.Path.{_≡_, sym, _∙_, ap}
 use mathlib.Core.List.{_++_}
 use native.Mathlib.Nat.{le-antisymm}
@@ -7,9 +7,8 @@ use native.Mathlib.Omega.{arith}
 use lib.ListN.{replicate}
 use Rattle.basis.specs.Search.{nothing, found, first, listed}
 use Rattle.basis.proofs.SearchLaws.{first-none, first-next, first-hit, first-end, listed-none, listed-next}
-use Rattle.table.specs.declared.Table.{Table}
-use Rattle.admission.specs.Bounded.{bound, sought, sought-told}
-use Rattle.admission.specs.Admit.{without-bound, first-without, bound-number, bounds-of, unless}
+use Rattle.admission.specs.Bounded.{bound, sought}
+use Rattle.admission.specs.Admit.{without-bound, first-without, bound-number, bounds-of}
 use Rattle.admission.proofs.AdmitLaws.{has-one, has-none, number-is}
 use borrow.Author.Needs.{needs}
 use Rattle.admission.proofs.bounds.admit_legal.Statement.{statement}

@@ -1,10 +1,9 @@
 -- The search meets its contract. The loop's invariant: no length from the budget up to x holds its demand.
-use Prim.Native.Nat.{ℕ, suc, _-_, _≤_, _<_}
-use mathlib.Core.Path.{_≡_, sym}
+use Prim.Native.Nat.{suc, _-_, _≤_}
+use mathlib.Core.Path.{sym}
 use native.Mathlib.Omega.{arith}
 use Rattle.table.specs.Threads.{thread}
 use Rattle.admission.specs.Demand.{demand}
-use Rattle.admission.specs.Bounded.{Is-bound, No-bound}
 use Rattle.admission.proofs.BoundLaws.{Short, short-first, short-next, bound-at, bound-none}
 use borrow.Author.Needs.{needs}
 use Rattle.admission.proofs.bounds.find_bound.Statement.{statement}

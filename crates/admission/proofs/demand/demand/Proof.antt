@@ -1,11 +1,11 @@
 use Rattle.admission.specs.Demand.{sum, share, demand}
-use Rattle.admission.proofs.SumLaws.{sum-none, sum-next}
+use Rattle.admission.proofs.SumLaws.{sum-next}
 use Rattle.admission.proofs.DemandLaws.{demand-partial}
 use Rattle.table.specs.Threads.{thread}
 use native.Mathlib.Nat.{le-antisymm}
 use native.Mathlib.Omega.{arith}
-use mathlib.Core.Path.{_≡_, sym, _∙_, ap}
-use Prim.Native.Nat.{ℕ, _+_, _-_, _≤_, _<_}
+use mathlib.Core.Path.{_≡_}
+use Prim.Native.Nat.{ℕ, _+_, _-_, _≤_}
 use borrow.Author.Needs.{needs}
 use Rattle.admission.proofs.demand.demand.Statement.{statement}
 use Rattle.admission.proofs.demand.demand.Tie as tie

@@ -1,8 +1,7 @@
 use Rattle.admission.proofs.DemandLaws.{share-above, share-other}
 use Rattle.admission.proofs.QuotientLaws.{product-fits}
 use native.Mathlib.Omega.{arith}
-use mathlib.Core.Path.{_≡_, sym, _∙_}
-use Prim.Native.Nat.{_*_, _≤_, _<_}
+use mathlib.Core.Path.{sym}
 use borrow.Author.Needs.{needs}
 use Rattle.admission.proofs.demand.share.Statement.{statement}
 use Rattle.admission.proofs.demand.share.Tie as tie

@@ -1,6 +1,6 @@
 use Rattle.admission.specs.Demand.{sum}
 use Rattle.admission.specs.Prohibition.{stretch, prohibition}
-use Rattle.admission.proofs.SumLaws.{sum-none, sum-next}
+use Rattle.admission.proofs.SumLaws.{sum-next}
 use Rattle.admission.proofs.ProhibitionLaws.{prohibition-partial}
 use Rattle.table.specs.Threads.{thread}
 use Rattle.table.specs.Mark.{marked}
@@ -10,8 +10,8 @@ use native.Mathlib.Omega.{arith}
 use mathlib.Core.Bool.{Bool, false}
 use mathlib.Core.List.{List}
 use lib.ListN.{getD}
-use mathlib.Core.Path.{_≡_, sym, _∙_, ap}
-use Prim.Native.Nat.{ℕ, _+_, _-_, _≤_, _<_}
+use mathlib.Core.Path.{_≡_, _∙_, ap}
+use Prim.Native.Nat.{ℕ, _+_, _-_, _≤_}
 use borrow.Author.Needs.{needs}
 use Rattle.admission.proofs.prohibited.prohibition_time.Statement.{statement}
 use Rattle.admission.proofs.prohibited.prohibition_time.Tie as tie

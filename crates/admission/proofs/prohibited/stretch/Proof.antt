@@ -2,8 +2,7 @@ use Rattle.admission.proofs.ProhibitionLaws.{stretch-above, stretch-oth
 use Rattle.admission.proofs.QuotientLaws.{product-fits}
 use borrow.Author.Tests.{not-true, not-false}
 use native.Mathlib.Omega.{arith}
-use mathlib.Core.Path.{_≡_, sym, _∙_}
-use Prim.Native.Nat.{_*_, _≤_, _<_}
+use mathlib.Core.Path.{sym}
 use borrow.Author.Needs.{needs}
 use Rattle.admission.proofs.prohibited.stretch.Statement.{statement}
 use Rattle.admission.proofs.prohibited.stretch.Tie as tie
