@@ -1,0 +1,70 @@
+-- `rival::time::release` is safe and ends: i counts up to 32.
+use Prim.Native.Nat.{_-_, _≤_}
+use borrow.Author.Needs.{needs}
+use Rattle.rival.proofs.time.release.Statement.{statement}
+use Rattle.rival.proofs.time.release.Tie as tie
+
+abbrev Inv-loop : tie.InvT-loop
+Inv-loop t s next₀ i₀ next i = i ≤ 32
+
+abbrev μ-loop : tie.MeasureT-loop
+μ-loop t s next₀ i₀ next i = 32 - i
+
+loop-holds : tie.Need-loop-holds Inv-loop μ-loop
+loop-holds c = search needs
+
+cast-if1 : tie.Need-cast-if1 Inv-loop μ-loop
+cast-if1 c = search needs
+
+mul-f : tie.Need-mul-f Inv-loop μ-loop
+mul-f c = search needs
+
+element-copy-out-f : tie.Need-element-copy-out-f Inv-loop μ-loop
+element-copy-out-f c = search needs
+
+mul-p : tie.Need-mul-p Inv-loop μ-loop
+mul-p c = search needs
+
+element-copy-out-p : tie.Need-element-copy-out-p Inv-loop μ-loop
+element-copy-out-p c = search needs
+
+released-requires : tie.Need-released-requires Inv-loop μ-loop
+released-requires c κs = search needs
+
+mul-t13 : tie.Need-mul-t13 Inv-loop μ-loop
+mul-t13 c = search needs
+
+element-set-from-next : tie.Need-element-set-from-next Inv-loop μ-loop
+element-set-from-next c = search needs
+
+add-i : tie.Need-add-i Inv-loop μ-loop
+add-i c = search needs
+
+loop-less : tie.Need-loop-less Inv-loop μ-loop
+loop-less c = search needs
+
+loop-again : tie.Need-loop-again Inv-loop μ-loop
+loop-again c = search needs
+
+returns : tie.Need-returns Inv-loop μ-loop
+returns c = search needs
+
+pub release-spec : {M : Type 1} → statement M
+release-spec =
+    tie.close
+    (tie.spec
+    Inv-loop
+    μ-loop
+    loop-holds
+    cast-if1
+    mul-f
+    element-copy-out-f
+    mul-p
+    element-copy-out-p
+    released-requires
+    mul-t13
+    element-set-from-next
+    add-i
+    loop-less
+    loop-again
+    returns)
