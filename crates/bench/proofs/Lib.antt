@@ -1,0 +1,2 @@
+pub mod PlayLaws
+pub mod InputLaws

@@ -1,0 +1,73 @@
+-- What was read lies behind the bytes that were there, and within the buffer.
+use Prim.Native.Nat.{_-_, _≤_}
+use native.Mathlib.Omega.{arith}
+use mir.Facts.{toZ-ofZ}
+use mir.Syntax.{w64}
+use lib.ListN.{length, take, drop, length-take}
+use Rattle.bench.proofs.InputLaws.{moved-counts}
+use borrow.Author.Needs.{needs}
+use Rattle.bench.proofs.input.read_on.Statement.{statement}
+use Rattle.bench.proofs.input.read_on.Tie as tie
+
+sub-read : tie.Need-sub-read
+sub-read c = search needs
+
+part-read-start : tie.Need-part-read-start
+part-read-start c = search needs
+
+part-read-end : tie.Need-part-read-end
+part-read-end c = search needs
+
+read-requires : tie.Need-read-requires
+read-requires c κs = search needs
+
+errno-requires : tie.Need-errno-requires
+errno-requires c κs = search needs
+
+same-length : tie.Need-same-length
+same-length c = search needs
+
+returns : tie.Need-returns
+returns c = search needs
+
+count-requires : tie.Need-count-requires
+count-requires c κs = search needs
+
+add-next : tie.Need-add-next
+add-next c = search needs
+
+same-length-2 : tie.Need-same-length-2
+same-length-2 c = search needs
+
+returns-2 : tie.Need-returns-2
+returns-2 c = search needs
+
+same-length-3 : tie.Need-same-length-3
+same-length-3 c = search needs
+
+returns-3 : tie.Need-returns-3
+returns-3 c =
+    let s = c .before .before .before .before .before .before .before .before .before in
+    let l = s .args .buf .now in
+    let r = c .before .before .before .before .before .before .read in
+    let m : c .before .count .result ≤ length (take (length l - s .args .at) (drop (s .args .at) l)) =
+    moved-counts _ _ _ (r .result) (r .ensures) (rw (toZ-ofZ {w = w64} {z = r .result} (record { sfits = r .ok })) at (c .before .count .ensures .1)) in
+    omega (arith, length-take (length l - s .args .at) (drop (s .args .at) l), s .pre, same-length-3 c)
+
+pub read-on-spec : {M : Type 1} → statement M
+read-on-spec =
+    tie.close
+    (tie.spec
+    sub-read
+    part-read-start
+    part-read-end
+    read-requires
+    errno-requires
+    same-length
+    returns
+    count-requires
+    add-next
+    same-length-2
+    returns-2
+    same-length-3
+    returns-3)

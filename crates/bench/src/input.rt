@@ -1,0 +1,81 @@
+// Reading a file or standard input into a buffer.
+ghost use Prim.Native.Nat.{_≤_, _<_};
+ghost use lib.ListN.{length};
+
+// How many bytes stand at the start of a buffer; whether that is all there is room for or all there are; whether to read on.
+pub struct Filled {
+    pub count: usize,
+    pub whole: bool,
+    pub open: bool,
+}
+
+// One read behind the bytes that are there. An interrupted one took nothing, and is made again.
+fn read_on(fd: i32, buf: &mut [u8], at: usize) -> Filled
+    requires { ⌜ at ≤ length (now buf) ⌝ }
+    ensures { λ r. ⌜ r .count ≤ length (now (buf .exit)) ⌝ }
+{
+    let got = libc::read(fd, &mut buf[at..]);
+    if got < 0 {
+        return Filled {
+            count: at,
+            whole: false,
+            open: os::errno() == libc::EINTR,
+        };
+    }
+    let next = at + io::count(got, buf);
+    if next == at {
+        return Filled {
+            count: at,
+            whole: true,
+            open: false,
+        };
+    }
+    Filled {
+        count: next,
+        whole: next == buf.len(),
+        open: next < buf.len(),
+    }
+}
+
+// One read less, or none once there is no more to read.
+fn reads_left(reads: u32, open: bool) -> u32
+    requires { ⌜ 0 < reads ⌝ }
+    ensures { λ r. ⌜ r < reads ⌝ }
+{
+    if open { reads - 1 } else { 0 }
+}
+
+// Reads until buf is full or the input ends. The reads are counted, since nothing says that interruptions end: the
+// longest buffer needs 128,000 at most.
+pub fn fill(fd: i32, buf: &mut [u8]) -> Filled
+    ensures { λ r. ⌜ r .count ≤ length (now (buf .exit)) ⌝ }
+{
+    let mut f = Filled {
+        count: 0,
+        whole: false,
+        open: true,
+    };
+    let mut reads = 1000000u32;
+    while 0 < reads {
+        f = read_on(fd, buf, f.count);
+        reads = reads_left(reads, f.open);
+    }
+    f
+}
+
+// The bytes of table.bin; no file counts as no bytes.
+pub fn load(buf: &mut [u8]) -> Filled
+    ensures { λ r. ⌜ r .count ≤ length (now (buf .exit)) ⌝ }
+{
+    let fd = os::open_read(b"table.bin");
+    if fd < 0 {
+        return Filled {
+            count: 0,
+            whole: os::errno() == libc::ENOENT,
+            open: false,
+        };
+    }
+    let f = fill(fd, buf);
+    libc::close(fd);
+    f
+}
