@@ -8,11 +8,7 @@ use native.Mathlib.Numerals.{add-one}
 use native.Mathlib.Omega.{arith}
 use Rattle.admission.specs.Demand.{sum}
 
--- The steps of a loop: no term yet, and one more.
-pub sum-none : (f : ℕ → ℕ) → sum 0 f ≡ 0
-unfolding sum
-sum-none f = refl
-
+-- The step of a loop: one term more.
 pub sum-next : (f : ℕ → ℕ) (n : ℕ) → sum (n + 1) f ≡ sum n f + f n
 unfolding sum
 sum-next f n = rw add-one

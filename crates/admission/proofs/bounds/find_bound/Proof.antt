@@ -13,7 +13,7 @@ use Rattle.admission.proofs.bounds.find_bound.Lts as lts
 use Rattle.admission.proofs.demand.demand.Reads as demand-reads
 
 abbrev Inv-loop : tie.InvT-loop
-Inv-loop i t last x₀ x = (thread t i .budget ≤ x) × Short t i x
+Inv-loop i t last x₀ x = Short t i x × (thread t i .budget ≤ x)
 
 abbrev μ-loop : tie.MeasureT-loop
 μ-loop i t last x₀ x = suc last - x
@@ -31,7 +31,7 @@ cast-x : tie.Need-cast-x Inv-loop μ-loop
 cast-x c = search needs
 
 loop-holds : tie.Need-loop-holds Inv-loop μ-loop
-loop-holds c = (search needs, short-first _ _)
+loop-holds c = (short-first _ _, search needs)
 
 cast-demand : tie.Need-cast-demand Inv-loop μ-loop
 cast-demand c = search needs
@@ -50,10 +50,10 @@ returns c =
     let s = c .before .before .before .before .before .before .before in
     let l = c .before .before .before .loop in
     sym (bound-at (s .args .t1) (s .args .i) (l .x) (record {
-      from-budget = l .inv .0;
+      from-budget = l .inv .1;
       to-deadline = omega arith;
       holds = omega (arith, c .before .demand .ensures);
-      smallest = l .inv .1;
+      smallest = l .inv .0;
     }))
 
 loop-less : tie.Need-loop-less Inv-loop μ-loop
@@ -63,13 +63,13 @@ loop-again : tie.Need-loop-again Inv-loop μ-loop
 loop-again c =
     let s = c .before .before .before .before .before .before .before in
     let l = c .before .before .before .loop in
-    (omega arith, rw (c .before .demand .ensures) (short-next (s .args .t1) (s .args .i) (s .pre .0) (l .x) (l .inv .1)))
+    (rw (c .before .demand .ensures) (short-next (s .args .t1) (s .args .i) (s .pre .0) (l .x) (l .inv .0)), omega arith)
 
 returns-2 : tie.Need-returns-2 Inv-loop μ-loop
 returns-2 c =
     let s = c .before .before .before .before .before in
     let l = c .before .loop in
-    sym (bound-none (s .args .t1) (s .args .i) (record { short = λ y a b. l .inv .1 y a (omega arith) }))
+    sym (bound-none (s .args .t1) (s .args .i) (record { short = λ y a b. l .inv .0 y a (omega arith) }))
 
 pub find-bound-spec : {M : Type 1} → statement M
 find-bound-spec =
