@@ -1,2 +1,4 @@
 pub mod PlayLaws
 pub mod InputLaws
+pub mod ChunkLaws
+pub mod FrontLaws

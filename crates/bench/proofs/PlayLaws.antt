@@ -82,7 +82,7 @@ pub record Adds (r q e : Run) : Type 0 where
   pub state : q .state ≡ e .state
   pub why : q .why ≡ e .why
 
-play-adds : (t : Table) (bs : List ℕ) (r : Run) → Adds r (play t bs r) (play t bs (record { lines = []; state = r .state; why = r .why }))
+pub play-adds : (t : Table) (bs : List ℕ) (r : Run) → Adds r (play t bs r) (play t bs (record { lines = []; state = r .state; why = r .why }))
 unfolding play after pick
 play-adds t bs r =
     by-test (eqb (r .why) 0) (λ e. rw e (record { lines = refl; state = refl; why = refl }))

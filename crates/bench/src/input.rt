@@ -37,16 +37,16 @@ fn read_on(fd: i32, buf: &mut [u8], at: usize) -> Filled
     }
 }
 
-// One read less, or none once there is no more to read.
-fn reads_left(reads: u32, open: bool) -> u32
-    requires { ⌜ 0 < reads ⌝ }
-    ensures { λ r. ⌜ r < reads ⌝ }
+// For a loop of which nothing says that it ends: one turn less, or none once it is over.
+pub fn turns_left(turns: u32, open: bool) -> u32
+    requires { ⌜ 0 < turns ⌝ }
+    ensures { λ r. ⌜ r < turns ⌝ }
 {
-    if open { reads - 1 } else { 0 }
+    if open { turns - 1 } else { 0 }
 }
 
-// Reads until buf is full or the input ends. The reads are counted, since nothing says that interruptions end: the
-// longest buffer needs 128,000 at most.
+// Reads until buf is full or the input ends. The reads are counted, since interruptions might never end: the longest
+// buffer needs 128,000 at most.
 pub fn fill(fd: i32, buf: &mut [u8]) -> Filled
     ensures { λ r. ⌜ r .count ≤ length (now (buf .exit)) ⌝ }
 {
@@ -55,10 +55,10 @@ pub fn fill(fd: i32, buf: &mut [u8]) -> Filled
         whole: false,
         open: true,
     };
-    let mut reads = 1000000u32;
-    while 0 < reads {
+    let mut turns = 1000000u32;
+    while 0 < turns {
         f = read_on(fd, buf, f.count);
-        reads = reads_left(reads, f.open);
+        turns = turns_left(turns, f.open);
     }
     f
 }

@@ -1,11 +1,11 @@
 // Admission and the prohibition time.
-use admission::Admitting;
-use admission::ProhibitionTime;
 use crate::dice::below8;
 use crate::dice::seldom;
 use crate::tally::Tally;
 use crate::tally::agree;
 use crate::tally::count;
+use admission::Admitting;
+use admission::ProhibitionTime;
 use rival::Admission;
 use rival::Prohibition;
 use table::Table;

@@ -1,6 +1,6 @@
 // The bytes of a table: written and read back, and read with damage.
+use crate::dice::any8;
 use crate::dice::below;
-use crate::dice::below8;
 use crate::same::same_table;
 use crate::tables::no_table;
 use crate::tally::Tally;
@@ -74,7 +74,7 @@ fn with_damage(seed: &mut u64, bytes: [u8; 640], n: u16) -> [u8; 640] {
             0 => std::num::wrapping_add_u8(b, 1),
             1 => std::num::wrapping_sub_u8(b, 1),
             2 => b ^ 128,
-            _ => below8(seed, 255),
+            _ => any8(seed),
         };
     }
     next

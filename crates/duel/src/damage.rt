@@ -1,4 +1,6 @@
 // Tables and states with one thing wrong.
+use crate::dice::any;
+use crate::dice::any8;
 use crate::dice::below;
 use crate::dice::below8;
 use crate::dice::between;
@@ -97,13 +99,13 @@ fn field_past_its_range(seed: &mut u64, t: Table) -> Table {
 fn with_any_field(seed: &mut u64, f: Thread) -> Thread {
     let mut next = f;
     match below(seed, 7) {
-        0 => next.domain = between8(seed, 0, 254),
-        1 => next.priority = between8(seed, 0, 254),
-        2 => next.period = between(seed, 0, 65534),
-        3 => next.offset = between(seed, 0, 65534),
-        4 => next.budget = between(seed, 0, 65534),
-        5 => next.deadline = between(seed, 0, 65534),
-        _ => next.blocking = between(seed, 0, 65534),
+        0 => next.domain = any8(seed),
+        1 => next.priority = any8(seed),
+        2 => next.period = any(seed),
+        3 => next.offset = any(seed),
+        4 => next.budget = any(seed),
+        5 => next.deadline = any(seed),
+        _ => next.blocking = any(seed),
     }
     next
 }

@@ -11,25 +11,29 @@ fn turn(seed: &mut u64) -> u64
     next
 }
 
-// Its upper half, the better one.
-fn half(seed: &mut u64) -> u16 {
+// Any number of 16 bits: the upper half, which is the better one.
+pub fn any(seed: &mut u64) -> u16 {
     (turn(seed) / 65536) as u16
+}
+
+pub fn any8(seed: &mut u64) -> u8 {
+    (turn(seed) / 16777216) as u8
 }
 
 // From 0 to n - 1; 0 where n is 0.
 pub fn below(seed: &mut u64, n: u16) -> u16 {
-    let x = half(seed);
+    let x = any(seed);
     if n == 0 { 0 } else { x % n }
 }
 
 pub fn below8(seed: &mut u64, n: u8) -> u8 {
-    let x = (turn(seed) / 16777216) as u8;
+    let x = any8(seed);
     if n == 0 { 0 } else { x % n }
 }
 
 pub fn below32(seed: &mut u64, n: u32) -> u32 {
-    let high = half(seed) as u32;
-    let low = half(seed) as u32;
+    let high = any(seed) as u32;
+    let low = any(seed) as u32;
     let x = high * 65536 + low;
     if n == 0 { 0 } else { x % n }
 }

@@ -74,7 +74,27 @@ fn line(tally: &Tally, kind: usize, text: &[u8]) {
     io::write_all(1, text);
 }
 
+// How often each number from the first to below the limit was given.
+fn refusals(tally: &Tally, group: usize, first: usize, limit: usize, text: &[u8]) {
+    for number in first..limit {
+        let given = counted(tally, std::num::wrapping_add_usize(group, number));
+        io::print_decimal(1, given as u64);
+        io::write_all(1, text);
+        io::print_decimal(1, number as u64);
+        io::write_all(1, b"\n");
+    }
+}
+
 fn report_steps(tally: &Tally) {
+    line(tally, tally::STEPS, b" steps\n");
+    line(tally, tally::RAN, b" steps of a thread\n");
+    line(tally, tally::IDLE_FOR, b" steps idle for a thread\n");
+    line(tally, tally::IDLE, b" steps idle\n");
+    refusals(tally, tally::STEP_REFUSED, 11, 15, b" steps refused with ");
+    refusals(tally, tally::STEP_REFUSED, 17, 18, b" steps refused with ");
+}
+
+fn report_tables(tally: &Tally) {
     line(tally, tally::TABLES, b" legal tables\n");
     line(tally, tally::THREADS, b" threads in them\n");
     line(tally, tally::MARKED, b" threads marked\n");
@@ -84,18 +104,9 @@ fn report_steps(tally: &Tally) {
         tally::STATES,
         b" runs from another state that fits\n",
     );
-    line(tally, tally::STEPS, b" steps\n");
-    line(tally, tally::RAN, b" steps of a thread\n");
-    line(tally, tally::IDLE_FOR, b" steps idle for a thread\n");
-    line(tally, tally::IDLE, b" steps idle\n");
-    line(tally, tally::STEP_REFUSED + 11, b" steps refused with 11\n");
-    line(tally, tally::STEP_REFUSED + 12, b" steps refused with 12\n");
-    line(tally, tally::STEP_REFUSED + 13, b" steps refused with 13\n");
-    line(tally, tally::STEP_REFUSED + 14, b" steps refused with 14\n");
-    line(tally, tally::STEP_REFUSED + 17, b" steps refused with 17\n");
 }
 
-fn report_damage(tally: &Tally) {
+fn report_damaged_tables(tally: &Tally) {
     line(
         tally,
         tally::DAMAGED_TABLE,
@@ -141,6 +152,9 @@ fn report_damage(tally: &Tally) {
         tally::STILL_LEGAL,
         b" of these tables legal all the same\n",
     );
+}
+
+fn report_damaged_states(tally: &Tally) {
     line(
         tally,
         tally::DAMAGED_STATE,
@@ -177,6 +191,10 @@ fn report_views(tally: &Tally) {
     line(tally, tally::SEEN, b" threads shown to a domain\n");
     line(tally, tally::GAPS, b" gaps shown to a domain\n");
     line(tally, tally::NO_VIEW, b" views refused\n");
+}
+
+// Of the second scheduler alone, until crate admission is compared.
+fn report_bounds(tally: &Tally) {
     line(tally, tally::ADMITTED, b" tables admitted\n");
     line(tally, tally::NOT_ADMITTED, b" tables not admitted\n");
     line(tally, tally::PROHIBITED, b" prohibition times\n");
@@ -191,25 +209,19 @@ fn report_bytes(tally: &Tally) {
     line(tally, tally::READ_BACK, b" tables written and read back\n");
     line(tally, tally::READ, b" damaged bytes read\n");
     line(tally, tally::ACCEPTED, b" of them accepted\n");
-    line(tally, tally::READ_REFUSED + 1, b" refused with 1\n");
-    line(tally, tally::READ_REFUSED + 2, b" refused with 2\n");
-    line(tally, tally::READ_REFUSED + 3, b" refused with 3\n");
-    line(tally, tally::READ_REFUSED + 4, b" refused with 4\n");
-    line(tally, tally::READ_REFUSED + 5, b" refused with 5\n");
-    line(tally, tally::READ_REFUSED + 6, b" refused with 6\n");
-    line(tally, tally::READ_REFUSED + 7, b" refused with 7\n");
-    line(tally, tally::READ_REFUSED + 8, b" refused with 8\n");
-    line(tally, tally::READ_REFUSED + 9, b" refused with 9\n");
-    line(tally, tally::READ_REFUSED + 10, b" refused with 10\n");
+    refusals(tally, tally::READ_REFUSED, 1, 11, b" of them refused with ");
 }
 
 fn main() {
     let mut tally = [0u32; 80];
     let mut seed: u64 = 1;
     play_tables(&mut tally, &mut seed, 2000);
+    report_tables(&tally);
     report_steps(&tally);
-    report_damage(&tally);
+    report_damaged_tables(&tally);
+    report_damaged_states(&tally);
     report_views(&tally);
+    report_bounds(&tally);
     report_bytes(&tally);
     line(&tally, tally::COMPARED, b" comparisons\n");
     line(&tally, tally::DISAGREED, b" disagreements\n");

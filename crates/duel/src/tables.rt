@@ -1,4 +1,5 @@
 // Random legal tables, and a table's rows and threads changed one at a time.
+use crate::dice::any8;
 use crate::dice::below;
 use crate::dice::below8;
 use crate::dice::between;
@@ -240,7 +241,10 @@ fn free_priority(t: Table, first: u8, from: u8) -> u8 {
 }
 
 fn with_random_thread(seed: &mut u64, t: Table, i: u8, shape: Shape) -> Table {
-    let priority = free_priority(t, i, below8(seed, shape.spread));
+    let high = any8(seed);
+    let low = below8(seed, shape.spread);
+    let from = if seldom(seed, 8) { high } else { low };
+    let priority = free_priority(t, i, from);
     with_thread(t, i, random_thread(seed, t.domains, priority, shape))
 }
 

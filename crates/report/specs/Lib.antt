@@ -1,3 +1,4 @@
 pub mod Decimal
 pub mod Lines
 pub mod Printing
+pub mod Samples

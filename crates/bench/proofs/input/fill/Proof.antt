@@ -1,4 +1,4 @@
--- The count stays within the buffer, and the reads that are left fall.
+-- The count stays within the buffer, and the turns that are left fall.
 use Prim.Native.Nat.{_≤_}
 use mathlib.Core.Path.{_≡_}
 use lib.ListN.{length}
@@ -7,10 +7,10 @@ use Rattle.bench.proofs.input.fill.Statement.{statement}
 use Rattle.bench.proofs.input.fill.Tie as tie
 
 abbrev Inv-loop : tie.InvT-loop
-Inv-loop fd buf₀ f₀ reads₀ buf f reads = (length buf ≡ length buf₀) × (f .count ≤ length buf)
+Inv-loop fd buf₀ f₀ turns₀ buf f turns = (length buf ≡ length buf₀) × (f .count ≤ length buf)
 
 abbrev μ-loop : tie.MeasureT-loop
-μ-loop fd buf₀ f₀ reads₀ buf f reads = reads
+μ-loop fd buf₀ f₀ turns₀ buf f turns = turns
 
 loop-holds : tie.Need-loop-holds Inv-loop μ-loop
 loop-holds c = search needs
@@ -18,8 +18,8 @@ loop-holds c = search needs
 read-on-requires : tie.Need-read-on-requires Inv-loop μ-loop
 read-on-requires c κs = search needs
 
-reads-left-requires : tie.Need-reads-left-requires Inv-loop μ-loop
-reads-left-requires c κs = search needs
+turns-left-requires : tie.Need-turns-left-requires Inv-loop μ-loop
+turns-left-requires c κs = search needs
 
 loop-less : tie.Need-loop-less Inv-loop μ-loop
 loop-less c = search needs
@@ -41,7 +41,7 @@ fill-spec =
     μ-loop
     loop-holds
     read-on-requires
-    reads-left-requires
+    turns-left-requires
     loop-less
     loop-again
     same-length
