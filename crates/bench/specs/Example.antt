@@ -15,7 +15,7 @@ use Rattle.reader.specs.Reader.{number-from, judged, ranged, row-from, rows-fro
 use Rattle.scheduler.specs.State.{fresh, place-fits, fits}
 use Rattle.scheduler.specs.Order.{holder, down, order}
 use Rattle.scheduler.specs.Step.{at-phase, released, release, pay, finish, heard, runs, count, decided, visit, walk, tick, ticked, advance, step}
-use Rattle.scheduler.specs.Taken.{rested, taken}
+use Rattle.scheduler.specs.Taken.{taken}
 use Rattle.report.specs.Decimal.{decimal-in, decimal}
 use Rattle.report.specs.Lines.{threads-line, step-line, end-line, refused-line}
 use Rattle.bench.specs.Text.{after, play, played, last-line, run-text, judged-text, bench-text}
@@ -52,5 +52,5 @@ text =
     ++ (0x65 ∷ 0x6E ∷ 0x64 ∷ 0x20 ∷ 0x31 ∷ 0x30 ∷ 0x0A ∷ [])
 
 pub example-printed : bench-text table-bytes step-bytes ≡ text
-unfolding pick every some first listed ceil flows row-ok broken gap-at gap-by-c gap-by-b first-gap within field-ranges field-range row-legal field-ok thread-ok field-zero thread-zero has place-legal legal seen-by hidden-below marked marks-of third second number number-at number-from judged ranged row-from rows-from free field-from fields-from threads-from ended after-rows version-from domains-from count-from reading fresh place-fits fits holder down order at-phase released release pay finish heard runs count decided visit walk tick ticked advance step rested taken decimal-in decimal threads-line step-line end-line refused-line after play played last-line run-text judged-text
+unfolding pick every some first listed ceil flows row-ok broken gap-at gap-by-c gap-by-b first-gap within field-ranges field-range row-legal field-ok thread-ok field-zero thread-zero has place-legal legal seen-by hidden-below marked marks-of third second number number-at number-from judged ranged row-from rows-from free field-from fields-from threads-from ended after-rows version-from domains-from count-from reading fresh place-fits fits holder down order at-phase released release pay finish heard runs count decided visit walk tick ticked advance step taken decimal-in decimal threads-line step-line end-line refused-line after play played last-line run-text judged-text
 example-printed = refl

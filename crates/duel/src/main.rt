@@ -91,7 +91,6 @@ fn report_steps(tally: &Tally) {
     line(tally, tally::IDLE_FOR, b" steps idle for a thread\n");
     line(tally, tally::IDLE, b" steps idle\n");
     refusals(tally, tally::STEP_REFUSED, 11, 15, b" steps refused with ");
-    refusals(tally, tally::STEP_REFUSED, 17, 18, b" steps refused with ");
 }
 
 fn report_tables(tally: &Tally) {

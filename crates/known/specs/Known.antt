@@ -22,7 +22,7 @@ use Rattle.reader.specs.Reader.{number-from, judged, ranged, row-from, rows-fro
 use Rattle.scheduler.specs.State.{fresh, place-fits, fits}
 use Rattle.scheduler.specs.Order.{holder, down, order}
 use Rattle.scheduler.specs.Step.{at-phase, released, release, pay, finish, heard, runs, count, decided, visit, walk, tick, ticked, advance, step}
-use Rattle.scheduler.specs.Taken.{rested, taken as step-taken}
+use Rattle.scheduler.specs.Taken.{taken as step-taken}
 use Rattle.scheduler.specs.Shown.{visible, view, showing}
 use Rattle.admission.specs.Demand.{sum, above, share, demand}
 use Rattle.admission.specs.Bounded.{enough, length-at, bound, bounding}
@@ -198,5 +198,5 @@ known =
 
 -- The one claim.
 pub all-known : map (λ (e : Entry). e .computed) known ≡ map (λ (e : Entry). e .by-hand) known
-unfolding pick every some first listed flows row-ok broken gap-at gap-by-c gap-by-b first-gap within field-ranges field-range row-legal field-ok thread-ok field-zero thread-zero taken place-legal legal seen-by hidden-below marked marks-of marking marks-given third second number number-at encode encode-all row-numbers thread-numbers numbers bytes overlaid writing written number-from judged ranged row-from rows-from free field-from fields-from threads-from ended after-rows version-from domains-from count-from reading fresh place-fits fits holder down order at-phase released release pay finish heard runs count decided visit walk tick ticked advance step rested step-taken visible view showing ceil sum above share demand enough length-at bound bounding without-bound first-without bound-number bounds-of admitting bounds-given stretch prohibition prohibiting run after
+unfolding pick every some first listed flows row-ok broken gap-at gap-by-c gap-by-b first-gap within field-ranges field-range row-legal field-ok thread-ok field-zero thread-zero taken place-legal legal seen-by hidden-below marked marks-of marking marks-given third second number number-at encode encode-all row-numbers thread-numbers numbers bytes overlaid writing written number-from judged ranged row-from rows-from free field-from fields-from threads-from ended after-rows version-from domains-from count-from reading fresh place-fits fits holder down order at-phase released release pay finish heard runs count decided visit walk tick ticked advance step step-taken visible view showing ceil sum above share demand enough length-at bound bounding without-bound first-without bound-number bounds-of admitting bounds-given stretch prohibition prohibiting run after
 all-known = refl

@@ -21,7 +21,7 @@ use Rattle.table.specs.declared.Thread.{Thread}
 use Rattle.scheduler.specs.State.{progress, put, place-fits, fits, fresh}
 use Rattle.scheduler.specs.Order.{holder, down, order}
 use Rattle.scheduler.specs.Step.{at-phase, released, release, pay, finish, heard, runs, count, walked, decided, visit, chosen, walk, tick, ticked, advance, step}
-use Rattle.scheduler.specs.Taken.{Taken, took, refused-step, rested, taken}
+use Rattle.scheduler.specs.Taken.{Taken, took, refused-step, taken}
 use Rattle.scheduler.specs.Paid.{releases}
 use Rattle.scheduler.specs.Shown.{visible, view}
 use Rattle.scheduler.specs.Isolated.{answer-of}
@@ -46,7 +46,7 @@ tells t d r = pick (eqb (r .number) 0) (view t d (answer-of (r .values))) r
 
 -- What d is told of each call of a run from a fresh start. To open it is to open all that a run computes with.
 unfoldable pub trace : Call → Table → ℕ → List (List ℕ) → List Told
-unfolding pick every some first listed flows row-ok broken gap-at gap-by-c gap-by-b first-gap within field-ranges field-range row-legal field-ok thread-ok field-zero thread-zero priority-taken place-legal legal seen-by hidden-below marked marks-of place-fits fits fresh holder down order at-phase released release pay finish heard runs count decided visit walk tick ticked advance step rested taken releases visible view answer-of run tells
+unfolding pick every some first listed flows row-ok broken gap-at gap-by-c gap-by-b first-gap within field-ranges field-range row-legal field-ok thread-ok field-zero thread-zero priority-taken place-legal legal seen-by hidden-below marked marks-of place-fits fits fresh holder down order at-phase released release pay finish heard runs count decided visit walk tick ticked advance step taken releases visible view answer-of run tells
 trace f t d a = map (λ (r : Taken). tells t d (r .told)) (run (f t) a fresh)
 
 -- A call with f for the step, of a table that nobody tests: a state that does not fit is refused.

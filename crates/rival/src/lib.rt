@@ -34,7 +34,7 @@ fn refused(number: u8, s: State) -> Stepped {
     }
 }
 
-// One step. Number 17 is never given: the walk takes no thread whose rest is 0.
+// One step.
 pub fn step(t: Table, s: State, bytes: &[u8]) -> Stepped {
     if !legal(t) {
         return refused(11, s);

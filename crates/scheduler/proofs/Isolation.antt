@@ -34,7 +34,7 @@ use Rattle.scheduler.specs.declared.Answer.the-variants.{Ran, IdleFor, I
 use Rattle.scheduler.specs.declared.Outcome.the-variants.{Chose, Refused}
 use Rattle.scheduler.proofs.OrderLaws.{Falling, order-falls, order-below}
 use Rattle.scheduler.proofs.FitLaws.{fresh-fits, fits-complete}
-use Rattle.scheduler.proofs.StepLaws.{step-fits, rested-always}
+use Rattle.scheduler.proofs.StepLaws.{step-fits}
 use Rattle.scheduler.proofs.IsolatedAlike.{Alike, alike-refl, alike-release}
 use Rattle.scheduler.proofs.IsolatedWalk.{Agree, Marks, lockstep}
 
@@ -76,7 +76,7 @@ module _ (t : Table) (ok : legal t ≡ true) where
       → taken t bs s
       ≡ pick (eqb (length bs) (t .count)) (pick (ltb (s .clock) last-clock) (took (step t bs s)) (refused-step 14 s)) (refused-step 13 s)
   unfolding taken pick
-  call-by bs s f = rw (ok, fits-complete t s f, rested-always t bs s)
+  call-by bs s f = rw (ok, fits-complete t s f)
 
   call-fits : (bs : List ℕ) (s : State) → Fits t s → Fits t (taken t bs s .state)
   call-fits bs s f =

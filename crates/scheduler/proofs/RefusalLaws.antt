@@ -16,18 +16,17 @@ use Rattle.table.specs.declared.Table.{Table}
 use Rattle.scheduler.specs.declared.State.{State}
 use Rattle.scheduler.specs.State.{last-clock, fits}
 use Rattle.scheduler.specs.Step.{step}
-use Rattle.scheduler.specs.Taken.{Taken, took, rested, taken}
+use Rattle.scheduler.specs.Taken.{Taken, took, taken}
 use Rattle.scheduler.specs.Numbered.{Numbered, not-legal, not-fitting, not-one-each, at-last, steps}
-use Rattle.scheduler.proofs.StepLaws.{rested-always}
 
 -- A refused step hands back the state it was given.
 pub refused-keeps : (t : Table) (bs : List ℕ) (s : State) → 0 < taken t bs s .told .number → taken t bs s .state ≡ s
-unfolding taken rested
+unfolding taken
 refused-keeps t bs s =
     let P : Taken → Type 0 = λ x. 0 < x .told .number → x .state ≡ s in
     both-ways P _ _ _
     (both-ways P _ _ _
-    (both-ways P _ _ _ (both-ways P _ _ _ (both-ways P _ _ _ (λ h. refl) (λ h. absurd (omega arith))) (λ h. refl)) (λ h. refl))
+    (both-ways P _ _ _ (both-ways P _ _ _ (λ h. absurd (omega arith)) (λ h. refl)) (λ h. refl))
     (λ h. refl))
     (λ h. refl)
 
@@ -35,7 +34,7 @@ module _ (t : Table) (bs : List ℕ) (s : State) where
   -- where every test passes, a call is the step
   pub taken-steps : legal t ≡ true → fits t s ≡ true → length bs ≡ t .count → s .clock < last-clock → taken t bs s ≡ took (step t bs s)
   unfolding taken pick
-  taken-steps a b c d = rw (a, b, eq-eqb _ _ c, lt-ltb _ _ d) (rested-always t bs s)
+  taken-steps a b c d = rw (a, b, eq-eqb _ _ c, lt-ltb _ _ d)
 
   -- a row that holds gives its number, and one of the rows holds
   number-only : {n : ℕ} → Numbered t bs s n → taken t bs s .told .number ≡ n

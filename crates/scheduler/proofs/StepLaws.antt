@@ -22,7 +22,7 @@ use Rattle.scheduler.specs.State.{progress, last-clock, Fits}
 use Rattle.scheduler.specs.Given.{Each}
 use Rattle.scheduler.specs.Order.{order}
 use Rattle.scheduler.specs.Step.{at-phase, released, release, decided, visit, chosen, walk, ticked, advance, step}
-use Rattle.scheduler.specs.Taken.{took, unrested, rested}
+use Rattle.scheduler.specs.Taken.{took}
 use Rattle.scheduler.proofs.OrderLaws.{order-below}
 use Rattle.scheduler.proofs.WalkLaws.{Kept, passed-each, walk-on, walk-stop, release-at}
 use Rattle.scheduler.proofs.FitLaws.{advance-clock, advance-fits}
@@ -42,6 +42,12 @@ Spent s z = Each (λ i p. p .rest ≤ progress s i .rest) z
 
 pub kept-spent : (n : ℕ) (s : State) → Kept n (λ i p. p .rest ≤ progress s i .rest)
 kept-spent n s = record { pays = λ i p l h. omega arith; finishes = λ i p l h. h }
+
+-- The thread chosen has a rest of 0 in a state.
+abbrev unrested : Answer → State → Bool
+unrested (Ran i) s = eqb (progress s i .rest) 0
+unrested (IdleFor i) s = eqb (progress s i .rest) 0
+unrested Idle s = false
 
 -- The thread that a visit chooses has a rest there, and so in every state with no less rest.
 visit-rested : (m : List Bool) (b i : ℕ) (s : State) → unrested (visit m b i s .answer) s ≡ false
@@ -70,14 +76,34 @@ module _ (m : List Bool) (bs : List ℕ) (s : State) where
   walk-rested [] z h = refl
   walk-rested (i ∷ is) z h = turn i is z h (walk-rested is) _ refl
 
--- The thread chosen had a rest when the walk began.
-pub chosen-rested : (m : List Bool) (bs is : List ℕ) (s : State) → unrested (walk m bs is s .answer) s ≡ false
-chosen-rested m bs is s = walk-rested m bs s is s (record { at = λ i. le-refl _ })
+-- The thread that an answer names has a rest above 0.
+pub record Rested (a : Answer) (s : State) : Type 0 where
+  pub ran : (i : ℕ) → a ≡ Ran i → 0 < progress s i .rest
+  pub idled : (i : ℕ) → a ≡ IdleFor i → 0 < progress s i .rest
 
--- So 17 is never given.
-pub rested-always : (t : Table) (bs : List ℕ) (s : State) → rested s (release t (t .count) s) (step t bs s) ≡ took (step t bs s)
-unfolding rested step advance ticked pick
-rested-always t bs s = simp (chosen-rested (marks-of t) bs (order t) (release t (t .count) s))
+above : (n : ℕ) → eqb n 0 ≡ false → 0 < n
+above n e = let d = eqb-false n 0 e in omega arith
+
+rested-of : (a : Answer) (s : State) → unrested a s ≡ false → Rested a s
+rested-of (Ran j) s e = record {
+  ran = λ i q. let z : j ≡ i = cc in rw z at (above (progress s j .rest) e);
+  idled = λ i q. let z : _≡_ {A = ℕ} 0 1 = cc in absurd (omega arith);
+}
+rested-of (IdleFor j) s e = record {
+  ran = λ i q. let z : _≡_ {A = ℕ} 0 1 = cc in absurd (omega arith);
+  idled = λ i q. let z : j ≡ i = cc in rw z at (above (progress s j .rest) e);
+}
+rested-of Idle s e = record {
+  ran = λ i q. let z : _≡_ {A = ℕ} 0 1 = cc in absurd (omega arith);
+  idled = λ i q. let z : _≡_ {A = ℕ} 0 1 = cc in absurd (omega arith);
+}
+
+-- The thread chosen had a rest above 0 when the walk began.
+pub chosen-rested : (t : Table) (bs : List ℕ) (s : State) → Rested (step t bs s .answer) (release t (t .count) s)
+unfolding step advance ticked
+chosen-rested t bs s =
+    let r = release t (t .count) s in
+    rested-of _ r (walk-rested (marks-of t) bs r (order t) r (record { at = λ i. le-refl _ }))
 
 -- A release at phase 0 refills the budget.
 pub rest-after-release : (t : Table) (s : State) (i : ℕ) → t .count ≤ 32 → Fits t s → i < t .count → thread t i .offset ≤ s .clock

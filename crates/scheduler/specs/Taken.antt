@@ -1,15 +1,14 @@
--- A call of the step: the number it is refused with, in the order 11, 12, 13, 14, 17, or the step itself.
+-- A call of the step: the number it is refused with, in the order 11, 12, 13, 14, or the step itself.
 use Prim.Native.Nat.{ℕ}
 use mathlib.Core.List.{List, [], _∷_}
-use mathlib.Core.Bool.{Bool, false}
 use lib.ListN.{length}
 use lib.Dec.{eqb, ltb}
 use Rattle.basis.specs.Tests.{pick}
 use Rattle.basis.specs.Told.{Told, answered, refused}
 use Rattle.table.specs.Legal.{legal}
 use Rattle.table.specs.declared.Table.{Table}
-use Rattle.scheduler.specs.State.{progress, last-clock, fits}
-use Rattle.scheduler.specs.Step.{release, step}
+use Rattle.scheduler.specs.State.{last-clock, fits}
+use Rattle.scheduler.specs.Step.{step}
 use Rattle.scheduler.specs.declared.State.{State}
 use Rattle.scheduler.specs.declared.Answer.{Answer}
 use Rattle.scheduler.specs.declared.Answer.the-variants.{Ran, IdleFor, Idle}
@@ -41,23 +40,13 @@ refused-step why s = record { told = refused why; state = s }
 abbrev pub took : Walked → Taken
 took w = record { told = answered (values (w .answer)); state = w .state }
 
--- The thread chosen had a rest of 0 in the state s in which the walk began: no thread's rest changes before it is reached.
-abbrev pub unrested : Answer → State → Bool
-unrested (Ran i) s = eqb (progress s i .rest) 0
-unrested (IdleFor i) s = eqb (progress s i .rest) 0
-unrested Idle s = false
-
--- 17, or the step.
-unfoldable pub rested : State → State → Walked → Taken
-rested s before w = pick (unrested (w .answer) before) (refused-step 17 s) (took w)
-
 unfoldable pub taken : Table → List ℕ → State → Taken
 taken t bs s =
     pick (legal t)
     (pick (fits t s)
     (pick (eqb (length bs) (t .count))
     (pick (ltb (s .clock) last-clock)
-    (rested s (release t (t .count) s) (step t bs s))
+    (took (step t bs s))
     (refused-step 14 s))
     (refused-step 13 s))
     (refused-step 12 s))

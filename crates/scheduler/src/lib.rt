@@ -20,7 +20,6 @@ use order::prepare;
 use sight::is_visible;
 use sight::seen_threads;
 use walk::advance;
-use walk::is_unrested;
 
 // The rest of a thread's budget, its finish mark and its count of steps run.
 pub struct Progress {
@@ -113,7 +112,7 @@ fn refuse(why: u8, s: State) -> Stepped
     }
 }
 
-// One step: 11, 12, 13, 14, 17, or the answer and the next state.
+// One step: 11, 12, 13, 14, or the answer and the next state.
 pub fn step(t: Table, s: State, bytes: &[u8]) -> Stepped
     ensures { λ r. ⌜ taken-of r ≡ taken t (now (bytes .entry)) s ⌝ }
 {
@@ -133,9 +132,6 @@ pub fn step(t: Table, s: State, bytes: &[u8]) -> Stepped
     let w = advance(t, p, s, bytes);
     let a = w.answer;
     let next = w.state;
-    if is_unrested(t, s, a) {
-        return refuse(17, s);
-    }
     Stepped {
         outcome: Outcome::Chose(a),
         state: next,

@@ -2,12 +2,10 @@
 ghost use mathlib.Core.Path.{_≡_};
 ghost use Prim.Native.Nat.{_<_, _≤_};
 ghost use lib.ListN.{length};
-ghost use lib.Dec.{eqb};
 ghost use Rattle.scheduler.specs.State.{progress, last-clock, Fits};
 ghost use Rattle.scheduler.specs.Given.{Usable, Counted, Below};
 ghost use Rattle.scheduler.specs.Order.{ranked};
-ghost use Rattle.scheduler.specs.Step.{runs, chosen, decided, visit, walk as the-walk, advance, release};
-ghost use Rattle.scheduler.specs.Taken.{unrested};
+ghost use Rattle.scheduler.specs.Step.{runs, chosen, decided, visit, walk as the-walk, advance};
 use super::Answer;
 use super::Prepared;
 use super::Progress;
@@ -125,28 +123,4 @@ pub fn advance(t: Table, p: Prepared, s: State, bytes: &[u8]) -> Walked
         answer: a,
         state: after.tick(),
     }
-}
-
-// Whether the thread chosen had a rest of 0 when the walk began.
-pub fn is_unrested(t: Table, s: State, a: Answer) -> bool
-    requires { ⌜ Usable t ⌝ }
-    ensures { λ r. ⌜ r ≡ unrested a (release t (t .count) s) ⌝ }
-{
-    let before = s.release(t);
-    match a {
-        Answer::Ran(i) => has_none(before, i),
-        Answer::IdleFor(i) => has_none(before, i),
-        Answer::Idle => false,
-    }
-}
-
-// Whether thread i has no rest; a thread past the last place has none.
-fn has_none(s: State, i: u8) -> bool
-    ensures { λ r. ⌜ r ≡ eqb (progress s i .rest) 0 ⌝ }
-{
-    if 32 <= i {
-        return true;
-    }
-    let p = s.threads[i as usize];
-    p.rest == 0
 }

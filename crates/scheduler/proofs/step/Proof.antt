@@ -12,7 +12,7 @@ use Rattle.scheduler.specs.State.{fits, Fits}
 use Rattle.scheduler.specs.Given.{Usable, Below}
 use Rattle.scheduler.specs.Order.{order}
 use Rattle.scheduler.specs.Step.{step}
-use Rattle.scheduler.specs.Taken.{taken, rested}
+use Rattle.scheduler.specs.Taken.{taken}
 use Rattle.scheduler.proofs.OrderLaws.{order-below}
 use Rattle.scheduler.proofs.FitLaws.{fits-sound, usable}
 use borrow.Author.Needs.{needs}
@@ -24,7 +24,6 @@ use Rattle.scheduler.proofs.fit.fits.Reads as fits-reads
 use Rattle.scheduler.proofs.order.prepare.Reads as prepare-reads
 use Rattle.scheduler.proofs.refuse.Reads as refuse-reads
 use Rattle.scheduler.proofs.walk.advance.Reads as advance-reads
-use Rattle.scheduler.proofs.walk.is_unrested.Reads as is-unrested-reads
 use Rattle.table.proofs.legal.Reads as legal-reads
 
 -- The table's and the state's sizes are their types'.
@@ -98,19 +97,9 @@ advance-requires c κs =
     let l : Below (length (s .args .bytes .now)) (order (s .args .t)) = rw e (order-below (s .args .t)) in
     (u, ((c .prepare .ensures .0, rw (c .prepare .ensures .1) l), (f, c .before .if4 .left, omega (arith, u .few, e))))
 
-is-unrested-requires : tie.Need-is-unrested-requires
-is-unrested-requires c κs = ready (c .before .before .before .before .before .before .before .before .before)
-
-refuse-requires-5 : tie.Need-refuse-requires-5
-refuse-requires-5 c κs = search needs
-
 returns-5 : tie.Need-returns-5
-unfolding taken rested pick
-returns-5 c = rw (lawful (c .before .before .before .before .before .before .before .before .before .before .before .before), fitting (c .before .before .before .before .before .before .before .before .before .before), eq-eqb _ _ (c .before .before .before .before .before .before .before .before .if3 .left), lt-ltb _ _ (c .before .before .before .before .before .before .if4 .left), ← stepped (c .before .before .before .before), sym (c .before .before .is-unrested .ensures) ∙ c .before .if5 .taken) (c .refuse5 .ensures)
-
-returns-6 : tie.Need-returns-6
-unfolding taken rested pick
-returns-6 c = rw (lawful (c .before .before .before .before .before .before .before .before .before .before .before), fitting (c .before .before .before .before .before .before .before .before .before), eq-eqb _ _ (c .before .before .before .before .before .before .before .if3 .left), lt-ltb _ _ (c .before .before .before .before .before .if4 .left), ← stepped (c .before .before .before), sym (c .before .is-unrested .ensures) ∙ c .if5 .left)
+unfolding taken pick
+returns-5 c = rw (lawful (c .before .before .before .before .before .before .before .before .before), fitting (c .before .before .before .before .before .before .before), eq-eqb _ _ (c .before .before .before .before .before .if3 .left), lt-ltb _ _ (c .before .before .before .if4 .left), ← stepped (c .before))
 
 pub step-spec : {M : Type 1} → statement M
 step-spec =
@@ -129,7 +118,4 @@ step-spec =
     returns-4
     prepare-requires
     advance-requires
-    is-unrested-requires
-    refuse-requires-5
-    returns-5
-    returns-6)
+    returns-5)
