@@ -1,0 +1,260 @@
+-- Demand 3 above the scheduler. Where table and actuator pass 15 and 20 the drives are the scheduler's calls, and what a domain is
+-- shown of a call says whether a thread that it may see ran; where they do not pass, nothing moves.
+use Prim.Native.Nat.{ℕ, _<_}
+use mathlib.Core.Path.{_≡_, refl, sym, _∙_, ap, ap₂, subst}
+use mathlib.Core.List.{List, [], _∷_, map, map-map}
+use mathlib.Core.Bool.{Bool, true, false}
+use native.Mathlib.Omega.{arith}
+use borrow.Author.Tests.{eqb-true, eqb-false, eq-eqb, ne-eqb, lt-ltb}
+use lib.ListN.{length}
+use lib.Dec.{eqb, ltb}
+use lib.IntN.{ℤ}
+use Rattle.basis.specs.Tests.{pick, and}
+use Rattle.basis.specs.Told.{Told, answered, refused}
+use Rattle.basis.proofs.TestLaws.{by-test, either, both, both-ways, refuted, fails, and-both, and-of}
+use Rattle.table.specs.Legal.{legal, Sized}
+use Rattle.table.specs.declared.Table.{Table}
+use Rattle.scheduler.specs.State.{fresh}
+use Rattle.scheduler.specs.Taken.{Taken, taken}
+use Rattle.scheduler.specs.Shown.{visible, view, showing}
+use Rattle.scheduler.specs.Isolated.{calls, answer-of, telling, Shown-call, shown-of, Same-step, Same-steps, ended, next}
+use Rattle.scheduler.specs.declared.State.{State}
+use Rattle.scheduler.specs.declared.Answer.{Answer}
+use Rattle.scheduler.specs.declared.Answer.the-variants.{Ran, IdleFor, Idle}
+use Rattle.scheduler.proofs.RefusalLaws.{refused-keeps}
+use Rattle.scheduler.proofs.Isolation.{demand-3}
+use Rattle.actuator.specs.Motion.{ranged, drawn}
+use Rattle.actuator.specs.Drive.{Brought, Drove, ran, commanded, moved-to, follows, driven}
+use Rattle.actuator.specs.Runs.{drives, positions, Same-runs, step-part, Isolated-drives, Same-positions}
+use Rattle.actuator.specs.declared.Actuator.{Actuator}
+use Rattle.actuator.proofs.MoveLaws.{Case, stays, goes, case-of, ranged-stays}
+
+-- What a list of values names: the first of them is i.
+names : ℕ → List ℕ → Bool
+names i [] = false
+names i (j ∷ vs) = eqb i j
+
+module _ (t : Table) (ok : legal t ≡ true) (d : ℕ) (dd : d < t .domains) where
+  -- What d is told of a call keeps its number, and names a thread that it may see exactly if that thread ran.
+  view-number : (n : Answer) → view t d n .number ≡ 0
+  unfolding view
+  view-number (Ran i) = both-ways (λ (x : Told). x .number ≡ 0) (visible t d i) _ _ refl refl
+  view-number (IdleFor i) = refl
+  view-number Idle = refl
+
+  shows-view : (n : Answer) → showing t d n ≡ view t d n
+  unfolding showing pick
+  shows-view n = rw (ok, lt-ltb d (t .domains) dd)
+
+  told-number : (x : Told) → telling t d x .number ≡ x .number
+  unfolding telling
+  told-number x =
+      either (λ (y : Told). y .number ≡ x .number) (eqb (x .number) 0)
+      (λ e. ap (λ (y : Told). y .number) (shows-view (answer-of (x .values))) ∙ view-number (answer-of (x .values)) ∙ sym (eqb-true (x .number) 0 e))
+      (λ e. refl)
+
+  view-names : (i : ℕ) → visible t d i ≡ true → (n : Answer) → names i (view t d n .values) ≡ ran i n
+  unfolding view names ran
+  view-names i v (Ran j) =
+      either (λ (x : Told). names i (x .values) ≡ eqb i j) (visible t d j) (λ e. refl)
+      (λ e. sym (fails (eqb i j) (λ q. refuted v (subst (λ k. visible t d k ≡ false) (sym (eqb-true i j q)) e))))
+  view-names i v (IdleFor j) = refl
+  view-names i v Idle = refl
+
+  told-names : (i : ℕ) → visible t d i ≡ true → (x : Told) → x .number ≡ 0 → names i (telling t d x .values) ≡ ran i (answer-of (x .values))
+  unfolding telling pick
+  told-names i v x z = rw (eq-eqb (x .number) 0 z, shows-view (answer-of (x .values))) (view-names i v (answer-of (x .values)))
+
+  told-refused : (x : Told) → eqb (x .number) 0 ≡ false → telling t d x ≡ x
+  unfolding telling pick
+  told-refused x e = rw e
+
+-- The actuator passes 15 and 20.
+accepted : Table → Actuator → Bool
+accepted t a = and (ltb (a .thread) (t .count)) (ranged a)
+
+module _ (t : Table) (b : Brought) (s : State) (a : Actuator) where
+  -- Where it passes, the scheduler's part of a drive is the scheduler's call, the actuator moves with every step, and it passes again.
+  part-taken : accepted t a ≡ true → step-part (driven t b s a) ≡ taken t (b .bytes) s
+  unfolding accepted driven follows pick
+  part-taken h =
+      let p = and-both (ltb (a .thread) (t .count)) (ranged a) h in
+      let r : Taken = taken t (b .bytes) s in
+      by-test (eqb (taken t (b .bytes) s .told .number) 0) (λ e. rw (e, p .0, p .1))
+      (λ e. let k : r .state ≡ s = refused-keeps t (b .bytes) s (omega (arith, eqb-false (taken t (b .bytes) s .told .number) 0 e)) in
+      rw e (λ i. record { told = r .told; state = sym k i }))
+
+  actuator-by : accepted t a ≡ true
+      → driven t b s a .actuator
+      ≡ pick (eqb (taken t (b .bytes) s .told .number) 0) (moved-to a (commanded a (answer-of (taken t (b .bytes) s .told .values)) (b .command))) a
+  unfolding accepted driven follows pick
+  actuator-by h =
+      let p = and-both (ltb (a .thread) (t .count)) (ranged a) h in
+      by-test (eqb (taken t (b .bytes) s .told .number) 0) (λ e. rw (e, p .0, p .1)) (λ e. rw e)
+
+  thread-stays : driven t b s a .actuator .thread ≡ a .thread
+  unfolding moved-to
+  thread-stays = go (case-of t b s a)
+    where
+      go : Case t b s a → driven t b s a .actuator .thread ≡ a .thread
+      go (stays z e) = ap (λ (x : Actuator). x .thread) e
+      go (goes c r f e) = ap (λ (x : Actuator). x .thread) e
+
+  accepted-stays : accepted t a ≡ true → accepted t (driven t b s a .actuator) ≡ true
+  unfolding accepted
+  accepted-stays h =
+      let p = and-both (ltb (a .thread) (t .count)) (ranged a) h in
+      and-of (ap (λ i. ltb i (t .count)) thread-stays ∙ p .0) (ranged-stays t b s a (p .1))
+
+  -- Where it does not pass, every drive is refused and hands back what it was given.
+  still : accepted t a ≡ false
+      → driven t b s a
+      ≡ record {
+        told = pick (eqb (taken t (b .bytes) s .told .number) 0) (refused (pick (ltb (a .thread) (t .count)) 20 15)) (taken t (b .bytes) s .told);
+        state = s;
+        actuator = a;
+      }
+  unfolding accepted driven follows pick
+  still h =
+      by-test (eqb (taken t (b .bytes) s .told .number) 0)
+      (λ e. by-test (ltb (a .thread) (t .count))
+      (λ f. let r : ranged a ≡ false = sym (ap (λ x. and x (ranged a)) f) ∙ h in rw (e, f, r))
+      (λ f. rw (e, f)))
+      (λ e. rw e)
+
+-- Two lists that start alike.
+heads : {A : Type 0} {x y : A} {xs ys : List A} → x ∷ xs ≡ y ∷ ys → x ≡ y
+heads e = cc
+
+tails : {A : Type 0} {x y : A} {xs ys : List A} → x ∷ xs ≡ y ∷ ys → xs ≡ ys
+tails e = cc
+
+-- No empty list is one with a first element.
+empty : {A B : Type 0} {x : A} {xs : List A} → [] ≡ x ∷ xs → B
+empty e = absurd (omega (arith, ap length e))
+
+abbrev sent : List Brought → List (List ℕ)
+sent bs = map (λ (b : Brought). b .bytes) bs
+
+abbrev wanted : List Brought → List ℤ
+wanted bs = map (λ (b : Brought). b .command) bs
+
+module _ (t : Table) (ok : legal t ≡ true) (d : ℕ) (dd : d < t .domains) where
+  -- Passed: the drives are shown as the calls are.
+  shown-drives : (bs : List Brought) (s : State) (a : Actuator) → accepted t a ≡ true
+      → map (λ (r : Drove). shown-of t d (step-part r)) (drives t bs s a) ≡ map (shown-of t d) (calls t (sent bs) s)
+  unfolding drives calls
+  shown-drives [] s a h = refl
+  shown-drives (b ∷ bs) s a h =
+      let p : step-part (driven t b s a) ≡ taken t (b .bytes) s = part-taken t b s a h in
+      ap₂ _∷_ (ap (shown-of t d) p)
+      (shown-drives bs (driven t b s a .state) (driven t b s a .actuator) (accepted-stays t b s a h)
+      ∙ ap (λ (x : Taken). map (shown-of t d) (calls t (sent bs) (x .state))) p)
+
+  -- Two calls of which d is told the same: both are refused with the same, or in both or neither the thread ran that d may see.
+  same-told : (x y : Told) → telling t d x ≡ telling t d y → eqb (x .number) 0 ≡ eqb (y .number) 0
+  same-told x y e =
+      ap (λ n. eqb n 0) (sym (told-number t ok d dd x) ∙ ap (λ (z : Told). z .number) e ∙ told-number t ok d dd y)
+
+  same-refused : (x y : Told) → telling t d x ≡ telling t d y → eqb (x .number) 0 ≡ false → x ≡ y
+  same-refused x y e f = sym (told-refused t ok d dd x f) ∙ e ∙ told-refused t ok d dd y (sym (same-told x y e) ∙ f)
+
+  same-ran : (i : ℕ) → visible t d i ≡ true → (x y : Told) → telling t d x ≡ telling t d y → eqb (x .number) 0 ≡ true
+      → ran i (answer-of (x .values)) ≡ ran i (answer-of (y .values))
+  same-ran i v x y e f =
+      sym (told-names t ok d dd i v x (eqb-true (x .number) 0 f))
+      ∙ ap (λ (z : Told). names i (z .values)) e
+      ∙ told-names t ok d dd i v y (eqb-true (y .number) 0 (sym (same-told x y e) ∙ f))
+
+  -- Passed: the actuator goes the same way.
+  same-move : (b c : Brought) (s r : State) (a : Actuator) → accepted t a ≡ true → visible t d (a .thread) ≡ true
+      → shown-of t d (taken t (b .bytes) s) ≡ shown-of t d (taken t (c .bytes) r) → b .command ≡ c .command
+      → driven t b s a .actuator ≡ driven t c r a .actuator
+  unfolding shown-of commanded
+  same-move b c s r a h v e k =
+      let x : Told = taken t (b .bytes) s .told in
+      let y : Told = taken t (c .bytes) r .told in
+      let q : telling t d x ≡ telling t d y = ap (λ (z : Shown-call). z .told) e in
+      actuator-by t b s a h
+      ∙ both _≡_ (eqb (x .number) 0) (eqb (y .number) 0) (same-told x y q)
+      (λ f. ap (moved-to a) (both _≡_ (ran (a .thread) (answer-of (x .values))) (ran (a .thread) (answer-of (y .values))) (same-ran (a .thread) v x y q f) (λ _. ap drawn k) (λ _. refl)))
+      (λ _. refl)
+      ∙ sym (actuator-by t c r a h)
+
+  same-actuators : (us vs : List Brought) (s r : State) (a : Actuator) → accepted t a ≡ true → visible t d (a .thread) ≡ true
+      → map (shown-of t d) (calls t (sent us) s) ≡ map (shown-of t d) (calls t (sent vs) r) → wanted us ≡ wanted vs
+      → map (λ (x : Drove). x .actuator) (drives t us s a) ≡ map (λ (x : Drove). x .actuator) (drives t vs r a)
+  unfolding drives calls
+  same-actuators [] [] s r a h v e k = refl
+  same-actuators [] (c ∷ vs) s r a h v e k = empty k
+  same-actuators (b ∷ us) [] s r a h v e k = empty (sym k)
+  same-actuators (b ∷ us) (c ∷ vs) s r a h v e k =
+      let m : driven t b s a .actuator ≡ driven t c r a .actuator = same-move b c s r a h v (heads e) (heads k) in
+      let p : driven t b s a .state ≡ taken t (b .bytes) s .state = ap (λ (x : Taken). x .state) (part-taken t b s a h) in
+      let q : driven t c r a .state ≡ taken t (c .bytes) r .state = ap (λ (x : Taken). x .state) (part-taken t c r a h) in
+      let f = ap (λ x. map (shown-of t d) (calls t (sent us) x)) p ∙ tails e ∙ sym (ap (λ x. map (shown-of t d) (calls t (sent vs) x)) q) in
+      ap₂ _∷_ m
+      (same-actuators us vs (driven t b s a .state) (driven t c r a .state) (driven t b s a .actuator) (accepted-stays t b s a h) (rw (thread-stays t b s a) v) f (tails k)
+      ∙ ap (λ y. map (λ (x : Drove). x .actuator) (drives t vs (driven t c r a .state) y)) m)
+
+-- Not passed: the drives are shown the same, since their steps are, and the actuator stays.
+module _ (t : Table) (ok : legal t ≡ true) (z : Sized t) (d : ℕ) (dd : d < t .domains) where
+  still-told : (a : Actuator) → accepted t a ≡ false → (b c : Brought) → Same-step t d (b .bytes) (c .bytes)
+      → driven t b fresh a .told ≡ driven t c fresh a .told
+  unfolding shown-of calls
+  still-told a h b c m =
+      let x : Told = taken t (b .bytes) fresh .told in
+      let y : Told = taken t (c .bytes) fresh .told in
+      let e = demand-3 t ok z d dd (b .bytes ∷ []) (c .bytes ∷ []) (next m ended) in
+      let q : telling t d x ≡ telling t d y = ap (λ (w : Shown-call). w .told) (heads e) in
+      ap (λ (w : Drove). w .told) (still t b fresh a h)
+      ∙ both _≡_ (eqb (x .number) 0) (eqb (y .number) 0) (same-told t ok d dd x y q) (λ _. refl) (λ f. same-refused t ok d dd x y q f)
+      ∙ sym (ap (λ (w : Drove). w .told) (still t c fresh a h))
+
+  still-drives : (a : Actuator) → accepted t a ≡ false → (b : Brought) (bs : List Brought) (s : State)
+      → drives t bs (driven t b s a .state) (driven t b s a .actuator) ≡ drives t bs s a
+  still-drives a h b bs s = ap (λ (w : Drove). drives t bs (w .state) (w .actuator)) (still t b s a h)
+
+  still-shown : (a : Actuator) → accepted t a ≡ false → (us vs : List Brought) → Same-steps t d (sent us) (sent vs)
+      → map (λ (r : Drove). shown-of t d (step-part r)) (drives t us fresh a) ≡ map (λ (r : Drove). shown-of t d (step-part r)) (drives t vs fresh a)
+  unfolding drives
+  still-shown a h [] [] ended = refl
+  still-shown a h (b ∷ us) (c ∷ vs) (next m more) =
+      let n = still-told a h b c m in
+      let u : driven t b fresh a .state ≡ driven t c fresh a .state = ap (λ (w : Drove). w .state) (still t b fresh a h) ∙ sym (ap (λ (w : Drove). w .state) (still t c fresh a h)) in
+      let e : step-part (driven t b fresh a) ≡ step-part (driven t c fresh a) = λ i. record { told = n i; state = u i } in
+      let show : List Drove → List Shown-call = map (λ (r : Drove). shown-of t d (step-part r)) in
+      ap₂ _∷_ (ap (shown-of t d) e)
+      (ap show (still-drives a h b us fresh) ∙ still-shown a h us vs more ∙ sym (ap show (still-drives a h c vs fresh)))
+
+  still-actuators : (a : Actuator) → accepted t a ≡ false → (us vs : List Brought) → wanted us ≡ wanted vs
+      → map (λ (r : Drove). r .actuator) (drives t us fresh a) ≡ map (λ (r : Drove). r .actuator) (drives t vs fresh a)
+  unfolding drives
+  still-actuators a h [] [] k = refl
+  still-actuators a h [] (c ∷ vs) k = empty k
+  still-actuators a h (b ∷ us) [] k = empty (sym k)
+  still-actuators a h (b ∷ us) (c ∷ vs) k =
+      ap₂ _∷_ (ap (λ (w : Drove). w .actuator) (still t b fresh a h) ∙ sym (ap (λ (w : Drove). w .actuator) (still t c fresh a h)))
+      (ap (map (λ (r : Drove). r .actuator)) (still-drives a h b us fresh) ∙ still-actuators a h us vs (tails k) ∙ sym (ap (map (λ (r : Drove). r .actuator)) (still-drives a h c vs fresh)))
+
+pub isolated-drives : (t : Table) → legal t ≡ true → Sized t → Isolated-drives t
+isolated-drives t ok z d dd a us vs m =
+    by-test (accepted t a)
+    (λ h. shown-drives t ok d dd us fresh a h ∙ demand-3 t ok z d dd (sent us) (sent vs) m ∙ sym (shown-drives t ok d dd vs fresh a h))
+    (λ h. still-shown t ok z d dd a h us vs m)
+
+-- Position and last command alike, at every step.
+pub isolated-actuators : (t : Table) → legal t ≡ true → Sized t → (d : ℕ) → d < t .domains → (a : Actuator) → visible t d (a .thread) ≡ true
+    → (us vs : List Brought) → Same-runs t d us vs → map (λ (r : Drove). r .actuator) (drives t us fresh a) ≡ map (λ (r : Drove). r .actuator) (drives t vs fresh a)
+isolated-actuators t ok z d dd a v us vs m =
+    by-test (accepted t a)
+    (λ h. same-actuators t ok d dd us vs fresh fresh a h v (demand-3 t ok z d dd (sent us) (sent vs) (m .steps)) (m .commands))
+    (λ h. still-actuators t ok z d dd a h us vs (m .commands))
+
+pub same-positions : (t : Table) → legal t ≡ true → Sized t → Same-positions t
+unfolding positions
+same-positions t ok z d dd a v us vs m =
+    let place : Actuator → ℤ = λ x. x .position in
+    let driven-one : Drove → Actuator = λ r. r .actuator in
+    ap (λ l. a .position ∷ l)
+    (sym (map-map place driven-one (drives t us fresh a)) ∙ ap (map place) (isolated-actuators t ok z d dd a v us vs m) ∙ map-map place driven-one (drives t vs fresh a))

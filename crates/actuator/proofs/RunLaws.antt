@@ -1,0 +1,140 @@
+-- The promises over runs, each by induction on the calls: a refused call stands still, any other makes one move.
+use Prim.Native.Nat.{ℕ, zero, suc, _+_, _-_, _*_, _≤_}
+use mathlib.Core.Path.{_≡_, refl, sym, _∙_, ap, subst}
+use mathlib.Core.List.{List, [], _∷_}
+use mathlib.Core.Bool.{true}
+use native.Mathlib.Nat.{zero-add, le-of-suc-le-suc, not-suc-le-zero}
+use native.Mathlib.Omega.{arith}
+use lib.ListN.{length, getD}
+use lib.IntN.{ℤ, pos}
+use Rattle.basis.proofs.TestLaws.{both-ways}
+use Rattle.table.specs.declared.Table.{Table}
+use Rattle.scheduler.specs.declared.State.{State}
+use Rattle.actuator.specs.Motion.{drawn, distance, moved}
+use Rattle.actuator.specs.Drive.{Brought, Drove, commanded, moved-to, follows, driven}
+use Rattle.actuator.specs.Runs.{drives, positions, position-after, Range-kept, Rate-kept, Standing, ended, next, Distance-falls, Between, Never-overshoots, Call-between}
+use Rattle.actuator.specs.Numbered.{In-range}
+use Rattle.actuator.specs.declared.Actuator.{Actuator}
+use Rattle.actuator.proofs.LevelLaws.{moved-in, ranged-position}
+use Rattle.actuator.proofs.NumberLaws.{in-range-sound}
+use Rattle.actuator.proofs.MoveLaws.{distance-self, distance-by, between-self, between-through, move-short, move-nearer, move-between, Case, stays, goes, case-of}
+
+module _ (t : Table) (b : Brought) (s : State) (a : Actuator) where
+  -- What one call does: it keeps the rate and the range, moves by the rate at most, and does not pass the command that stands after it.
+  rate-stays : driven t b s a .actuator .rate ≡ a .rate
+  unfolding moved-to
+  rate-stays = go (case-of t b s a)
+    where
+      go : Case t b s a → driven t b s a .actuator .rate ≡ a .rate
+      go (stays z e) = ap (λ (x : Actuator). x .rate) e
+      go (goes c r f e) = ap (λ (x : Actuator). x .rate) e
+
+  range-stays : In-range (a .position) → In-range (driven t b s a .actuator .position)
+  unfolding moved-to
+  range-stays i = go (case-of t b s a)
+    where
+      go : Case t b s a → In-range (driven t b s a .actuator .position)
+      go (stays z e) = rw e i
+      go (goes c r f e) = rw e (in-range-sound (moved (a .rate) (a .position) c) (moved-in (a .rate) (a .position) c (ranged-position a r) f))
+
+  call-short : distance (a .position) (driven t b s a .actuator .position) ≤ a .rate
+  unfolding moved-to
+  call-short = go (case-of t b s a)
+    where
+      go : Case t b s a → distance (a .position) (driven t b s a .actuator .position) ≤ a .rate
+      go (stays z e) = rw e (omega (arith, distance-self (a .position)))
+      go (goes c r f e) = rw e (move-short (a .rate) (a .position) c (ranged-position a r) f)
+
+  -- Where it is a step that leaves the command c, the distance to c falls by the rate or to 0.
+  call-nearer : (c : ℤ) → driven t b s a .told .number ≡ 0 → driven t b s a .actuator .command ≡ c
+      → distance (driven t b s a .actuator .position) c ≡ distance (a .position) c - a .rate
+  unfolding moved-to
+  call-nearer c n k = go (case-of t b s a)
+    where
+      go : Case t b s a → distance (driven t b s a .actuator .position) c ≡ distance (a .position) c - a .rate
+      go (stays z e) = absurd (z n)
+      go (goes x r f e) =
+          let q : x ≡ c = sym (ap (λ (y : Actuator). y .command) e) ∙ k in
+          rw (e, ← q) (move-nearer (a .rate) (a .position) x (ranged-position a r) f)
+
+-- The last command stays where the number brought is drawn to it.
+command-kept : (t : Table) (b : Brought) (s : State) (a : Actuator) (c : ℤ) → a .command ≡ c → drawn (b .command) ≡ c
+    → driven t b s a .actuator .command ≡ c
+unfolding driven follows moved-to commanded
+command-kept t b s a c e f =
+    let P : Drove → Type 0 = λ r. r .actuator .command ≡ c in
+    both-ways P _ _ _ (both-ways P _ _ _ (both-ways P _ _ _ (both-ways (λ (x : ℤ). x ≡ c) _ _ _ f e) e) e) e
+
+pub call-between : Call-between
+unfolding moved-to
+call-between t b s a = go (case-of t b s a)
+  where
+    go : Case t b s a → Between (a .position) (driven t b s a .actuator .command) (driven t b s a .actuator .position)
+    go (stays z e) = rw e (between-self (a .position) (a .command))
+    go (goes c r f e) = rw e (move-between (a .rate) (a .position) c (ranged-position a r) f)
+
+pub range-kept : Range-kept
+unfolding positions drives
+range-kept t bs s a i zero h = i
+range-kept t [] s a i (suc k) h = absurd (not-suc-le-zero h)
+range-kept t (b ∷ bs) s a i (suc k) h = range-kept t bs _ _ (range-stays t b s a i) k (le-of-suc-le-suc h)
+
+-- From the first position, and from any other.
+rate-from-first : (t : Table) (bs : List Brought) (s : State) (a : Actuator) (k : ℕ) → k ≤ length bs
+    → distance (a .position) (position-after t bs s a k) ≤ k * a .rate
+unfolding positions drives
+rate-from-first t bs s a zero h = omega (arith, distance-self (a .position))
+rate-from-first t [] s a (suc k) h = absurd (not-suc-le-zero h)
+rate-from-first t (b ∷ bs) s a (suc k) h =
+    let r : Drove = driven t b s a in
+    let q : ℤ = position-after t bs (r .state) (r .actuator) k in
+    let first : distance (a .position) (r .actuator .position) ≤ a .rate = call-short t b s a in
+    let rest : distance (r .actuator .position) q ≤ k * r .actuator .rate = rate-from-first t bs (r .state) (r .actuator) k (le-of-suc-le-suc h) in
+    let rest′ : distance (r .actuator .position) q ≤ k * a .rate = rw (rate-stays t b s a) at rest in
+    omega (arith, distance-by (a .position) (r .actuator .position) q, first, rest′)
+
+pub rate-kept : Rate-kept
+unfolding positions drives
+rate-kept t bs s a zero k h = rw zero-add (rate-from-first t bs s a k (omega arith))
+rate-kept t [] s a (suc i) k h = let h′ : suc i + k ≤ 0 = h in absurd (omega arith)
+rate-kept t (b ∷ bs) s a (suc i) k h =
+    let q : suc i + k ≡ suc (i + k) = omega arith in
+    let h′ : suc (i + k) ≤ suc (length bs) = rw q at h in
+    rw q (rw (rate-stays t b s a) at (rate-kept t bs (driven t b s a .state) (driven t b s a .actuator) i k (le-of-suc-le-suc h′)))
+
+pub distance-falls : Distance-falls
+unfolding positions drives
+distance-falls t bs s a c z zero h = omega arith
+distance-falls t [] s a c z (suc k) h = absurd (not-suc-le-zero h)
+distance-falls t (b ∷ bs) s a c (next n e z) (suc k) h =
+    let r : Drove = driven t b s a in
+    let q : ℤ = position-after t bs (r .state) (r .actuator) k in
+    let rest : distance q c ≡ distance (r .actuator .position) c - k * r .actuator .rate = distance-falls t bs (r .state) (r .actuator) c z k (le-of-suc-le-suc h) in
+    let rest′ : distance q c ≡ distance (r .actuator .position) c - k * a .rate = rw (rate-stays t b s a) at rest in
+    let first : distance (r .actuator .position) c ≡ distance (a .position) c - a .rate = call-nearer t b s a c n e in
+    omega (arith, first, rest′)
+
+pub never-overshoots : Never-overshoots
+unfolding positions drives
+never-overshoots t bs s a c z zero h = between-self (a .position) c
+never-overshoots t [] s a c z (suc k) h = absurd (not-suc-le-zero h)
+never-overshoots t (b ∷ bs) s a c (next n e z) (suc k) h =
+    between-through (subst (λ (x : ℤ). Between (a .position) x (driven t b s a .actuator .position)) e (call-between t b s a))
+    (never-overshoots t bs (driven t b s a .state) (driven t b s a .actuator) c z k (le-of-suc-le-suc h))
+
+-- A command stands where each call is a step and brings a number that is drawn to it, and it is the last command already.
+pub data Brings (c : ℤ) : List Brought → Type 0 where
+  no-more : Brings c []
+  again : {b : Brought} {bs : List Brought} → drawn (b .command) ≡ c → Brings c bs → Brings c (b ∷ bs)
+
+pub data All-steps : List Drove → Type 0 where
+  none-left : All-steps []
+  one : {r : Drove} {rs : List Drove} → r .told .number ≡ 0 → All-steps rs → All-steps (r ∷ rs)
+
+pub brought-stands : (t : Table) (bs : List Brought) (s : State) (a : Actuator) (c : ℤ) → a .command ≡ c → Brings c bs → All-steps (drives t bs s a)
+    → Standing c (drives t bs s a)
+unfolding drives
+brought-stands t [] s a c e z n = ended
+brought-stands t (b ∷ bs) s a c e (again f z) (one n k) =
+    let g : driven t b s a .actuator .command ≡ c = command-kept t b s a c e f in
+    next n g (brought-stands t bs (driven t b s a .state) (driven t b s a .actuator) c g z k)

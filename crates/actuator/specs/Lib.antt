@@ -1,0 +1,5 @@
+pub mod Motion
+pub mod Drive
+pub mod Numbered
+pub mod Runs
+pub mod Worked

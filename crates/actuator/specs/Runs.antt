@@ -1,0 +1,88 @@
+-- Runs of any length, and what is promised of the position over them.
+use Prim.Native.Nat.{ℕ, _+_, _-_, _*_, _≤_, _<_}
+use mathlib.Core.Path.{_≡_}
+use mathlib.Core.List.{List, [], _∷_, map}
+use mathlib.Core.Bool.{true}
+use lib.ListN.{length, getD}
+use lib.IntN.{ℤ, pos}
+use lib.Signed.{_≤ℤ_}
+use Rattle.table.specs.Legal.{legal, Sized}
+use Rattle.table.specs.declared.Table.{Table}
+use Rattle.scheduler.specs.State.{fresh}
+use Rattle.scheduler.specs.Taken.{Taken}
+use Rattle.scheduler.specs.Shown.{visible}
+use Rattle.scheduler.specs.Isolated.{shown-of, Same-steps}
+use Rattle.scheduler.specs.declared.State.{State}
+use Rattle.actuator.specs.Motion.{distance}
+use Rattle.actuator.specs.Drive.{Brought, Drove, driven}
+use Rattle.actuator.specs.Numbered.{In-range}
+use Rattle.actuator.specs.declared.Actuator.{Actuator}
+
+-- What each call of the drive gives, in turn: a call is handed the state and the actuator that the one before it handed back,
+-- refused or not.
+unfoldable pub drives : Table → List Brought → State → Actuator → List Drove
+drives t [] s a = []
+drives t (b ∷ more) s a = driven t b s a ∷ drives t more (driven t b s a .state) (driven t b s a .actuator)
+
+-- The position before the first call, and after each.
+unfoldable pub positions : Table → List Brought → State → Actuator → List ℤ
+positions t bs s a = a .position ∷ map (λ (r : Drove). r .actuator .position) (drives t bs s a)
+
+-- The position after k calls.
+abbrev pub position-after : Table → List Brought → State → Actuator → ℕ → ℤ
+position-after t bs s a k = getD (positions t bs s a) k (pos 0)
+
+-- A position in its range stays there.
+abbrev pub Range-kept : Type 0
+Range-kept = (t : Table) (bs : List Brought) (s : State) (a : Actuator) → In-range (a .position)
+    → (k : ℕ) → k ≤ length bs → In-range (position-after t bs s a k)
+
+-- Positions k steps apart differ by at most k times the rate.
+abbrev pub Rate-kept : Type 0
+Rate-kept = (t : Table) (bs : List Brought) (s : State) (a : Actuator) (i k : ℕ) → i + k ≤ length bs
+    → distance (position-after t bs s a i) (position-after t bs s a (i + k)) ≤ k * a .rate
+
+-- A standing command: each call is a step, and leaves the command c.
+pub data Standing (c : ℤ) : List Drove → Type 0 where
+  ended : Standing c []
+  next : {r : Drove} {rs : List Drove} → r .told .number ≡ 0 → r .actuator .command ≡ c → Standing c rs → Standing c (r ∷ rs)
+
+-- Under it the distance after k steps is the larger of 0 and the first distance less k times the rate: `_-_` does not go below 0.
+abbrev pub Distance-falls : Type 0
+Distance-falls = (t : Table) (bs : List Brought) (s : State) (a : Actuator) (c : ℤ) → Standing c (drives t bs s a)
+    → (k : ℕ) → k ≤ length bs → distance (position-after t bs s a k) c ≡ distance (a .position) c - k * a .rate
+
+-- q lies between p and c.
+pub record Between (p c q : ℤ) : Type 0 where
+  pub rising : p ≤ℤ c → (p ≤ℤ q) × (q ≤ℤ c)
+  pub falling : c ≤ℤ p → (c ≤ℤ q) × (q ≤ℤ p)
+
+-- It never passes the command: each position lies between the first one and the command, ..
+abbrev pub Never-overshoots : Type 0
+Never-overshoots = (t : Table) (bs : List Brought) (s : State) (a : Actuator) (c : ℤ) → Standing c (drives t bs s a)
+    → (k : ℕ) → k ≤ length bs → Between (a .position) c (position-after t bs s a k)
+
+-- .. and in each call, refused or not, between the one before and the command that stands after it.
+abbrev pub Call-between : Type 0
+Call-between = (t : Table) (b : Brought) (s : State) (a : Actuator)
+    → Between (a .position) (driven t b s a .actuator .command) (driven t b s a .actuator .position)
+
+-- What the scheduler's part of a drive gives.
+abbrev pub step-part : Drove → Taken
+step-part r = record { told = r .told; state = r .state }
+
+-- From a fresh start each domain of the table is shown the same of every drive, whatever the commands are.
+abbrev pub Isolated-drives : Table → Type 0
+Isolated-drives t = (d : ℕ) → d < t .domains → (a : Actuator) (us vs : List Brought)
+    → Same-steps t d (map (λ (b : Brought). b .bytes) us) (map (λ (b : Brought). b .bytes) vs)
+    → map (λ (r : Drove). shown-of t d (step-part r)) (drives t us fresh a) ≡ map (λ (r : Drove). shown-of t d (step-part r)) (drives t vs fresh a)
+
+-- Two runs that demand 3 speaks of, with the same commands.
+pub record Same-runs (t : Table) (d : ℕ) (us vs : List Brought) : Type 0 where
+  pub steps : Same-steps t d (map (λ (b : Brought). b .bytes) us) (map (λ (b : Brought). b .bytes) vs)
+  pub commands : map (λ (b : Brought). b .command) us ≡ map (λ (b : Brought). b .command) vs
+
+-- With the same actuator at the start, each domain that may see the pitch thread is given the same positions at every step.
+abbrev pub Same-positions : Table → Type 0
+Same-positions t = (d : ℕ) → d < t .domains → (a : Actuator) → visible t d (a .thread) ≡ true → (us vs : List Brought) → Same-runs t d us vs
+    → positions t us fresh a ≡ positions t vs fresh a

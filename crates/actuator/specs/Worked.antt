@@ -1,0 +1,123 @@
+-- Worked by hand, and computed: drawing, one move, the command that stands, each refusal, and the ten steps of the pitch loop's story.
+use Prim.Native.Nat.{ℕ, min}
+use mathlib.Core.Path.{_≡_, refl}
+use mathlib.Core.List.{List, [], _∷_, map}
+use lib.ListN.{replicate}
+use lib.IntN.{ℤ, pos, negsuc, negℤ}
+use Rattle.basis.specs.Tests.{pick}
+use Rattle.basis.specs.Told.{Told, answered, refused}
+use Rattle.table.specs.Threads.{none}
+use Rattle.table.specs.declared.Table.{Table}
+use Rattle.scheduler.specs.State.{fresh}
+use Rattle.scheduler.specs.Taken.{Taken, values}
+use Rattle.scheduler.specs.Isolated.{answer-of}
+use Rattle.scheduler.specs.declared.State.{State}
+use Rattle.scheduler.specs.declared.Answer.{Answer}
+use Rattle.scheduler.specs.declared.Answer.the-variants.{Ran, IdleFor, Idle}
+use Rattle.actuator.specs.Motion.{lowest, highest, in-range, ranged, drawn, distance, towards, moved, start}
+use Rattle.actuator.specs.Drive.{Drove, ran, commanded, moved-to, follows}
+use Rattle.actuator.specs.declared.Actuator.{Actuator}
+
+-- -5,001 and the least number of the type are drawn to -5,000, 95,001 and the largest to 95,000; the ends and what is between stay.
+pub drawn-low : map drawn (negℤ (pos 5001) ∷ negsuc 9223372036854775807 ∷ []) ≡ lowest ∷ lowest ∷ []
+unfolding drawn pick
+drawn-low = refl
+
+pub drawn-high : map drawn (pos 95001 ∷ pos 9223372036854775807 ∷ []) ≡ highest ∷ highest ∷ []
+unfolding drawn pick
+drawn-high = refl
+
+abbrev kept : List ℤ
+kept = lowest ∷ negsuc 0 ∷ pos 0 ∷ pos 94999 ∷ highest ∷ []
+
+pub drawn-kept : map drawn kept ≡ kept
+unfolding drawn pick
+drawn-kept = refl
+
+-- Across 0 the distance from -300 to 200 is 500.
+pub across : distance (negℤ (pos 300)) (pos 200) ≡ 500
+unfolding distance
+across = refl
+
+-- A move up and a move down by the rate, by less than it, and none at the command.
+pub moves : moved 250 (negℤ (pos 100)) (pos 900) ∷ moved 250 (pos 100) (negℤ (pos 900)) ∷ moved 250 (pos 100) (pos 300) ∷ moved 250 (pos 100) (negℤ (pos 100))
+    ∷ moved 250 (pos 100) (pos 100) ∷ []
+    ≡ pos 150 ∷ negℤ (pos 150) ∷ pos 300 ∷ negℤ (pos 100) ∷ pos 100 ∷ []
+unfolding moved towards distance pick
+moves = refl
+
+-- The story's table, domains and threads alike: 0 is the pitch loop, 1 the actuator model, 2 the load monitor, which is private.
+abbrev pub bench : Table
+bench = record {
+  domains = 3;
+  count = 3;
+  rows = 7 ∷ 6 ∷ 4 ∷ replicate 13 0;
+  threads =
+      record { domain = 0; priority = 20; period = 10; offset = 0; budget = 3; deadline = 10; blocking = 0 }
+      ∷ record { domain = 1; priority = 10; period = 10; offset = 0; budget = 2; deadline = 10; blocking = 0 }
+      ∷ record { domain = 2; priority = 30; period = 10; offset = 0; budget = 4; deadline = 10; blocking = 3 } ∷ replicate 29 none;
+}
+
+-- The actuator at 1,000 whose last command is 2,000, with rate 100 and pitch thread 0.
+abbrev moving : Actuator
+moving = record { position = pos 1000; command = pos 2000; rate = 100; thread = 0 }
+
+-- What a drive with the command 0 gives after a step that tells this.
+abbrev after : Actuator → Told → Drove
+after a n = follows bench (pos 0) fresh a (record { told = n; state = fresh })
+
+abbrev gives : Told → ℤ → ℤ → Drove
+gives n p c = record { told = n; state = fresh; actuator = record { position = p; command = c; rate = 100; thread = 0 } }
+
+-- The command is taken if thread 0 runs; not if another runs, if the processor idles on thread 0's account, or if it idles. The
+-- position moves each time.
+pub taken-or-not : map (λ (n : Answer). after moving (answered (values n))) (Ran 0 ∷ Ran 1 ∷ IdleFor 0 ∷ Idle ∷ [])
+    ≡ gives (answered (0 ∷ 0 ∷ [])) (pos 900) (pos 0) ∷ gives (answered (0 ∷ 1 ∷ [])) (pos 1100) (pos 2000)
+    ∷ gives (answered (1 ∷ 0 ∷ [])) (pos 1100) (pos 2000) ∷ gives (answered (2 ∷ [])) (pos 1100) (pos 2000) ∷ []
+unfolding follows commanded ran moved-to moved towards distance drawn ranged in-range answer-of pick
+taken-or-not = refl
+
+-- A refused step keeps its number and moves nothing, even where thread and rate are wrong too.
+pub step-first : after (record { position = pos 1000; command = pos 2000; rate = 0; thread = 3 }) (refused 12)
+    ≡ record { told = refused 12; state = fresh; actuator = record { position = pos 1000; command = pos 2000; rate = 0; thread = 3 } }
+unfolding follows pick
+step-first = refl
+
+abbrev number : Actuator → ℕ
+number a = after a (answered (2 ∷ [])) .told .number
+
+-- 15 for thread 3 of three, before 20; 20 for a rate of 0 or 1,001, and for a position or a stored command one beyond an end.
+pub fifteen-first : number (record { position = pos 1000; command = pos 2000; rate = 0; thread = 3 }) ≡ 15
+unfolding follows pick
+fifteen-first = refl
+
+pub twenty : map number
+    (record { position = pos 1000; command = pos 2000; rate = 0; thread = 0 }
+    ∷ record { position = pos 1000; command = pos 2000; rate = 1001; thread = 0 }
+    ∷ record { position = negℤ (pos 5001); command = pos 2000; rate = 100; thread = 0 }
+    ∷ record { position = pos 1000; command = pos 95001; rate = 100; thread = 0 } ∷ [])
+    ≡ 20 ∷ 20 ∷ 20 ∷ 20 ∷ []
+unfolding follows ranged in-range pick
+twenty = refl
+
+-- The ends of every range pass.
+pub ends-pass : map number
+    (record { position = negℤ (pos 5000); command = pos 95000; rate = 1; thread = 2 }
+    ∷ record { position = pos 95000; command = negℤ (pos 5000); rate = 1000; thread = 2 } ∷ [])
+    ≡ 0 ∷ 0 ∷ []
+unfolding follows ranged in-range pick
+ends-pass = refl
+
+-- The positions after each of a list of answers, with the same command number at each.
+unfoldable pub along : List Answer → ℤ → Actuator → List ℤ
+along [] x a = []
+along (n ∷ ns) x a =
+    let r = follows bench x fresh a (record { told = answered (values n); state = fresh }) in
+    r .actuator .position ∷ along ns x (r .actuator)
+
+-- The story: the load monitor has the first four steps, the pitch loop runs at 4, 5 and 6, the actuator model at 7 and 8. A command
+-- of 10 degrees stands from step 4 on; at 0.25 degrees a step the position is 1.5 degrees after step 9.
+pub story : along (Ran 2 ∷ IdleFor 2 ∷ IdleFor 2 ∷ IdleFor 2 ∷ Ran 0 ∷ Ran 0 ∷ Ran 0 ∷ Ran 1 ∷ Ran 1 ∷ Idle ∷ []) (pos 10000) (start (pos 0) 250 0)
+    ≡ map pos (0 ∷ 0 ∷ 0 ∷ 0 ∷ 250 ∷ 500 ∷ 750 ∷ 1000 ∷ 1250 ∷ 1500 ∷ [])
+unfolding along follows commanded ran moved-to moved towards distance drawn ranged in-range start answer-of pick
+story = refl

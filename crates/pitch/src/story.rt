@@ -1,0 +1,118 @@
+// Three parties on one bench, ten steps of 1 ms a period: the load monitor, which is private, has the first four steps whether it runs
+// or waits, the pitch loop runs at 4, 5 and 6, and below it the actuator model.
+use super::text::number;
+use super::text::say;
+use super::text::signed;
+use actuator::Actuator;
+use actuator::Driven;
+use scheduler::Answer;
+use scheduler::Outcome;
+use scheduler::State;
+use table::Table;
+use table::Thread;
+
+// A thread with a period of 10 steps, released at clock 0 and due at the period's end.
+pub fn task(domain: u8, priority: u8, budget: u16, blocking: u16) -> Thread {
+    Thread {
+        domain,
+        priority,
+        period: 10,
+        offset: 0,
+        budget,
+        deadline: 10,
+        blocking,
+    }
+}
+
+// Domains and threads alike: 0 is the pitch loop, 1 the actuator model, 2 the load monitor.
+pub fn bench() -> Table {
+    let mut rows = [0u16; 16];
+    rows[0] = 7;
+    rows[1] = 6;
+    rows[2] = 4;
+    let none = table::no_thread();
+    let mut threads = [none; 32];
+    threads[0] = task(0, 20, 3, 0);
+    threads[1] = task(1, 10, 2, 0);
+    threads[2] = task(2, 30, 4, 3);
+    Table {
+        domains: 3,
+        count: 3,
+        rows,
+        threads,
+    }
+}
+
+// The monitor runs at the first step of a period, and then waits.
+fn monitor_sends(clock: u64) -> u8 {
+    if clock % 10 == 0 {
+        return 1;
+    }
+    0
+}
+
+// In the first period 10 degrees are wanted; then -20, which is drawn to -5.
+fn wanted(clock: u64) -> i64 {
+    if clock < 10 {
+        return 10000;
+    }
+    -20000
+}
+
+fn say_answer(a: Answer) {
+    match a {
+        Answer::Ran(i) => {
+            say(b"T");
+            number(i as u64);
+        }
+        Answer::IdleFor(i) => {
+            say(b"I");
+            number(i as u64);
+        }
+        Answer::Idle => say(b"--"),
+    }
+}
+
+fn say_outcome(o: Outcome) {
+    match o {
+        Outcome::Chose(a) => say_answer(a),
+        Outcome::Refused(why) => {
+            say(b"refused ");
+            number(why as u64);
+        }
+    }
+}
+
+// A line: the clock before the step, the answer, and the position after it in thousandths of a degree.
+fn say_step(clock: u64, r: Driven) {
+    let o = r.outcome;
+    let a = r.actuator;
+    number(clock);
+    say(b" ");
+    say_outcome(o);
+    say(b" ");
+    signed(a.position);
+    say(b"\n");
+}
+
+fn turn(t: Table, s: State, a: Actuator, clock: u64) -> Driven {
+    let bytes = [1, 1, monitor_sends(clock)];
+    actuator::drive(t, s, a, &bytes, wanted(clock))
+}
+
+// Three periods, at most 0.25 degrees a step.
+pub fn tell() {
+    let t = bench();
+    let mut s = scheduler::fresh();
+    let mut a = actuator::start(0, 250, 0);
+    let mut clock: u64 = 0;
+    while clock < 30 {
+        let r = turn(t, s, a, clock);
+        say_step(clock, r);
+        let next = r.state;
+        let moved = r.actuator;
+        s = next;
+        a = moved;
+        clock += 1;
+    }
+}
