@@ -1,4 +1,5 @@
 // One input for each refusal number, with what the call answers: the number, the call, and the input in words.
+use actuator::Actuator;
 use reader::Verdict;
 use scheduler::Answer;
 use scheduler::Outcome;
@@ -128,6 +129,14 @@ fn writes(what: &[u8]) {
     io::write_all(1, what);
 }
 
+fn drives(a: Actuator, what: &[u8]) {
+    let r = actuator::drive(example(), scheduler::fresh(), a, b"\x01\x01", 0);
+    let o = r.outcome;
+    say(step_number(o));
+    io::write_all(1, b": drive, ");
+    io::write_all(1, what);
+}
+
 fn main() {
     reads(
         b"\x01\x02\x02\x03\x02\x01\x1E\x0A\x00\x04\x0A\x02\x00\x14\x0A\x00\x03\x0A",
@@ -165,4 +174,8 @@ fn main() {
     );
     shows(2, b"example E, domain 2\n");
     writes(b"example E into 18 bytes\n");
+    drives(
+        actuator::start(0, 0, 0),
+        b"example E, an actuator with rate 0\n",
+    );
 }

@@ -1,4 +1,4 @@
-// The methods on the state that document 01 names, each by value: pay, finish, count and tick return the next state.
+// The methods on the state, each by value: pay, finish and tick, which document 01 names, and count return the next state.
 ghost use mathlib.Core.Path.{_≡_};
 ghost use Prim.Native.Nat.{_<_};
 ghost use Rattle.scheduler.specs.State.{no-progress, progress, last-clock};
