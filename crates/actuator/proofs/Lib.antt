@@ -3,6 +3,7 @@ pub mod DriveLaws
 pub mod NumberLaws
 pub mod UniqueLaws
 pub mod MoveLaws
+pub mod CommandLaws
 pub mod RunLaws
 pub mod IsolatedDrives
 pub mod StoryLaws

@@ -1,22 +1,25 @@
 -- The promises over runs, each by induction on the calls: a refused call stands still, any other makes one move.
-use Prim.Native.Nat.{ℕ, zero, suc, _+_, _-_, _*_, _≤_}
+use Prim.Native.Nat.{ℕ, zero, suc, _+_, _-_, _*_, _≤_, _<_}
 use mathlib.Core.Path.{_≡_, refl, sym, _∙_, ap, subst}
 use mathlib.Core.List.{List, [], _∷_}
-use mathlib.Core.Bool.{true}
-use native.Mathlib.Nat.{zero-add, le-of-suc-le-suc, not-suc-le-zero}
+use mathlib.Core.Bool.{true, false}
+use native.Mathlib.Nat.{le-trans, mul-le-mul-right, zero-add, le-of-suc-le-suc, not-suc-le-zero}
 use native.Mathlib.Omega.{arith}
-use lib.ListN.{length, getD}
+use borrow.Author.Tests.{eq-eqb, ne-eqb, eqb-true, eqb-false}
+use lib.ListN.{length, getD, take, drop}
+use lib.Dec.{eqb}
 use lib.IntN.{ℤ, pos}
-use Rattle.basis.proofs.TestLaws.{both-ways}
+use Rattle.basis.specs.Tests.{pick}
+use Rattle.basis.proofs.TestLaws.{by-test, both-ways, either}
 use Rattle.table.specs.declared.Table.{Table}
 use Rattle.scheduler.specs.declared.State.{State}
 use Rattle.actuator.specs.Motion.{drawn, distance, moved}
 use Rattle.actuator.specs.Drive.{Brought, Drove, commanded, moved-to, follows, driven}
-use Rattle.actuator.specs.Runs.{drives, positions, position-after, Range-kept, Rate-kept, Standing, ended, next, Distance-falls, Between, Never-overshoots, Call-between}
+use Rattle.actuator.specs.Runs.{drives, positions, position-after, steps-among, Range-kept, Rate-kept, Standing, ended, next, passed, Distance-falls, Between, Never-overshoots, Call-between}
 use Rattle.actuator.specs.Numbered.{In-range}
 use Rattle.actuator.specs.declared.Actuator.{Actuator}
 use Rattle.actuator.proofs.LevelLaws.{moved-in, ranged-position}
-use Rattle.actuator.proofs.NumberLaws.{in-range-sound}
+use Rattle.actuator.proofs.NumberLaws.{in-range-sound, drive-refused-keeps}
 use Rattle.actuator.proofs.MoveLaws.{distance-self, distance-by, between-self, between-through, move-short, move-nearer, move-between, Case, stays, goes, case-of}
 
 module _ (t : Table) (b : Brought) (s : State) (a : Actuator) where
@@ -79,19 +82,28 @@ range-kept t bs s a i zero h = i
 range-kept t [] s a i (suc k) h = absurd (not-suc-le-zero h)
 range-kept t (b ∷ bs) s a i (suc k) h = range-kept t bs _ _ (range-stays t b s a i) k (le-of-suc-le-suc h)
 
+-- A refused call moves nothing.
+refused-stands : (t : Table) (b : Brought) (s : State) (a : Actuator) → 0 < driven t b s a .told .number
+    → driven t b s a .actuator .position ≡ a .position
+refused-stands t b s a n = ap (λ (x : Actuator). x .position) (drive-refused-keeps t b s a n .1)
+
 -- From the first position, and from any other.
 rate-from-first : (t : Table) (bs : List Brought) (s : State) (a : Actuator) (k : ℕ) → k ≤ length bs
-    → distance (a .position) (position-after t bs s a k) ≤ k * a .rate
-unfolding positions drives
+    → distance (a .position) (position-after t bs s a k) ≤ steps-among (take k (drives t bs s a)) * a .rate
+unfolding positions drives steps-among
 rate-from-first t bs s a zero h = omega (arith, distance-self (a .position))
 rate-from-first t [] s a (suc k) h = absurd (not-suc-le-zero h)
 rate-from-first t (b ∷ bs) s a (suc k) h =
     let r : Drove = driven t b s a in
     let q : ℤ = position-after t bs (r .state) (r .actuator) k in
+    let n : ℕ = steps-among (take k (drives t bs (r .state) (r .actuator))) in
     let first : distance (a .position) (r .actuator .position) ≤ a .rate = call-short t b s a in
-    let rest : distance (r .actuator .position) q ≤ k * r .actuator .rate = rate-from-first t bs (r .state) (r .actuator) k (le-of-suc-le-suc h) in
-    let rest′ : distance (r .actuator .position) q ≤ k * a .rate = rw (rate-stays t b s a) at rest in
-    omega (arith, distance-by (a .position) (r .actuator .position) q, first, rest′)
+    let rest : distance (r .actuator .position) q ≤ n * r .actuator .rate = rate-from-first t bs (r .state) (r .actuator) k (le-of-suc-le-suc h) in
+    let rest′ : distance (r .actuator .position) q ≤ n * a .rate = rw (rate-stays t b s a) at rest in
+    either (λ (m : ℕ). distance (a .position) q ≤ m * a .rate) (eqb (r .told .number) 0)
+    (λ e. omega (arith, distance-by (a .position) (r .actuator .position) q, first, rest′))
+    (λ e. let z = eqb-false (r .told .number) 0 e in
+    subst (λ (p : ℤ). distance p q ≤ n * a .rate) (refused-stands t b s a (omega (arith, z))) rest′)
 
 pub rate-kept : Rate-kept
 unfolding positions drives
@@ -102,17 +114,33 @@ rate-kept t (b ∷ bs) s a (suc i) k h =
     let h′ : suc (i + k) ≤ suc (length bs) = rw q at h in
     rw q (rw (rate-stays t b s a) at (rate-kept t bs (driven t b s a .state) (driven t b s a .actuator) i k (le-of-suc-le-suc h′)))
 
+-- Of k calls at most k are steps.
+few-steps : (rs : List Drove) (k : ℕ) → steps-among (take k rs) ≤ k
+unfolding steps-among
+few-steps rs zero = omega arith
+few-steps [] (suc k) = omega arith
+few-steps (r ∷ rs) (suc k) =
+    both-ways (λ (m : ℕ). m ≤ suc k) (eqb (r .told .number) 0) (suc (steps-among (take k rs))) (steps-among (take k rs))
+    (omega (arith, few-steps rs k)) (omega (arith, few-steps rs k))
+
 pub distance-falls : Distance-falls
-unfolding positions drives
+unfolding positions drives steps-among pick
 distance-falls t bs s a c z zero h = omega arith
 distance-falls t [] s a c z (suc k) h = absurd (not-suc-le-zero h)
 distance-falls t (b ∷ bs) s a c (next n e z) (suc k) h =
     let r : Drove = driven t b s a in
     let q : ℤ = position-after t bs (r .state) (r .actuator) k in
-    let rest : distance q c ≡ distance (r .actuator .position) c - k * r .actuator .rate = distance-falls t bs (r .state) (r .actuator) c z k (le-of-suc-le-suc h) in
-    let rest′ : distance q c ≡ distance (r .actuator .position) c - k * a .rate = rw (rate-stays t b s a) at rest in
+    let m : ℕ = steps-among (take k (drives t bs (r .state) (r .actuator))) in
+    let rest : distance q c ≡ distance (r .actuator .position) c - m * r .actuator .rate = distance-falls t bs (r .state) (r .actuator) c z k (le-of-suc-le-suc h) in
+    let rest′ : distance q c ≡ distance (r .actuator .position) c - m * a .rate = rw (rate-stays t b s a) at rest in
     let first : distance (r .actuator .position) c ≡ distance (a .position) c - a .rate = call-nearer t b s a c n e in
-    omega (arith, first, rest′)
+    rw (eq-eqb (r .told .number) 0 n) (omega (arith, first, rest′))
+distance-falls t (b ∷ bs) s a c (passed n z) (suc k) h =
+    let r : Drove = driven t b s a in
+    let q : ℤ = position-after t bs (r .state) (r .actuator) k in
+    let m : ℕ = steps-among (take k (drives t bs (r .state) (r .actuator))) in
+    let rest : distance q c ≡ distance (r .actuator .position) c - m * r .actuator .rate = distance-falls t bs (r .state) (r .actuator) c z k (le-of-suc-le-suc h) in
+    rw (ne-eqb (r .told .number) 0 (λ e. omega (arith, n, e))) (rw (rate-stays t b s a, refused-stands t b s a n) at rest)
 
 pub never-overshoots : Never-overshoots
 unfolding positions drives
@@ -121,20 +149,46 @@ never-overshoots t [] s a c z (suc k) h = absurd (not-suc-le-zero h)
 never-overshoots t (b ∷ bs) s a c (next n e z) (suc k) h =
     between-through (subst (λ (x : ℤ). Between (a .position) x (driven t b s a .actuator .position)) e (call-between t b s a))
     (never-overshoots t bs (driven t b s a .state) (driven t b s a .actuator) c z k (le-of-suc-le-suc h))
+never-overshoots t (b ∷ bs) s a c (passed n z) (suc k) h =
+    let r : Drove = driven t b s a in
+    subst (λ (p : ℤ). Between p c (position-after t bs (r .state) (r .actuator) k)) (refused-stands t b s a n)
+    (never-overshoots t bs (r .state) (r .actuator) c z k (le-of-suc-le-suc h))
 
--- A command stands where each call is a step and brings a number that is drawn to it, and it is the last command already.
+-- A command stands where each call brings a number that is drawn to it, and it is the last command already.
 pub data Brings (c : ℤ) : List Brought → Type 0 where
   no-more : Brings c []
   again : {b : Brought} {bs : List Brought} → drawn (b .command) ≡ c → Brings c bs → Brings c (b ∷ bs)
 
-pub data All-steps : List Drove → Type 0 where
-  none-left : All-steps []
-  one : {r : Drove} {rs : List Drove} → r .told .number ≡ 0 → All-steps rs → All-steps (r ∷ rs)
-
-pub brought-stands : (t : Table) (bs : List Brought) (s : State) (a : Actuator) (c : ℤ) → a .command ≡ c → Brings c bs → All-steps (drives t bs s a)
+pub brought-stands : (t : Table) (bs : List Brought) (s : State) (a : Actuator) (c : ℤ) → a .command ≡ c → Brings c bs
     → Standing c (drives t bs s a)
 unfolding drives
-brought-stands t [] s a c e z n = ended
-brought-stands t (b ∷ bs) s a c e (again f z) (one n k) =
-    let g : driven t b s a .actuator .command ≡ c = command-kept t b s a c e f in
-    next n g (brought-stands t bs (driven t b s a .state) (driven t b s a .actuator) c g z k)
+brought-stands t [] s a c e z = ended
+brought-stands t (b ∷ bs) s a c e (again f z) =
+    let r : Drove = driven t b s a in
+    let g : r .actuator .command ≡ c = command-kept t b s a c e f in
+    let rest : Standing c (drives t bs (r .state) (r .actuator)) = brought-stands t bs (r .state) (r .actuator) c g z in
+    by-test (eqb (r .told .number) 0)
+    (λ q. next (eqb-true (r .told .number) 0 q) g rest)
+    (λ q. let n = eqb-false (r .told .number) 0 q in passed (omega (arith, n)) rest)
+
+-- Each promise reaches the last call of a run.
+module _ (t : Table) (bs : List Brought) (s : State) (a : Actuator) where
+  abbrev last : ℤ
+  last = position-after t bs s a (length bs)
+
+  pub range-to-the-end : In-range (a .position) → In-range last
+  range-to-the-end i = range-kept t bs s a i (length bs) (omega arith)
+
+  pub rate-to-the-end : distance (a .position) last ≤ length bs * a .rate
+  unfolding positions
+  rate-to-the-end =
+      let r : distance (a .position) last ≤ steps-among (take (length bs) (drives t bs s a)) * a .rate =
+      rw zero-add at (rate-kept t bs s a 0 (length bs) (omega arith)) in
+      le-trans r (mul-le-mul-right (a .rate) (few-steps (drives t bs s a) (length bs)))
+
+  pub distance-at-the-end : (c : ℤ) → Standing c (drives t bs s a)
+      → distance last c ≡ distance (a .position) c - steps-among (take (length bs) (drives t bs s a)) * a .rate
+  distance-at-the-end c z = distance-falls t bs s a c z (length bs) (omega arith)
+
+  pub between-to-the-end : (c : ℤ) → Standing c (drives t bs s a) → Between (a .position) c last
+  between-to-the-end c z = never-overshoots t bs s a c z (length bs) (omega arith)

@@ -1,11 +1,13 @@
 -- Runs of any length, and what is promised of the position over them.
-use Prim.Native.Nat.{ℕ, _+_, _-_, _*_, _≤_, _<_}
+use Prim.Native.Nat.{ℕ, suc, _+_, _-_, _*_, _≤_, _<_}
 use mathlib.Core.Path.{_≡_}
 use mathlib.Core.List.{List, [], _∷_, map}
 use mathlib.Core.Bool.{true}
-use lib.ListN.{length, getD}
+use lib.ListN.{length, getD, take, drop}
+use lib.Dec.{eqb}
 use lib.IntN.{ℤ, pos}
 use lib.Signed.{_≤ℤ_}
+use Rattle.basis.specs.Tests.{pick}
 use Rattle.table.specs.Legal.{legal, Sized}
 use Rattle.table.specs.declared.Table.{Table}
 use Rattle.scheduler.specs.State.{fresh}
@@ -37,20 +39,31 @@ abbrev pub Range-kept : Type 0
 Range-kept = (t : Table) (bs : List Brought) (s : State) (a : Actuator) → In-range (a .position)
     → (k : ℕ) → k ≤ length bs → In-range (position-after t bs s a k)
 
+-- How many calls of a run are steps: a refused call is none.
+unfoldable pub steps-among : List Drove → ℕ
+steps-among [] = 0
+steps-among (r ∷ rs) = pick (eqb (r .told .number) 0) (suc (steps-among rs)) (steps-among rs)
+
+-- How many of the k calls after the first i are steps.
+abbrev pub steps-between : List Drove → ℕ → ℕ → ℕ
+steps-between rs i k = steps-among (take k (drop i rs))
+
 -- Positions k steps apart differ by at most k times the rate.
 abbrev pub Rate-kept : Type 0
 Rate-kept = (t : Table) (bs : List Brought) (s : State) (a : Actuator) (i k : ℕ) → i + k ≤ length bs
-    → distance (position-after t bs s a i) (position-after t bs s a (i + k)) ≤ k * a .rate
+    → distance (position-after t bs s a i) (position-after t bs s a (i + k)) ≤ steps-between (drives t bs s a) i k * a .rate
 
--- A standing command: each call is a step, and leaves the command c.
+-- A standing command: each step leaves the command c; a refused call is no step.
 pub data Standing (c : ℤ) : List Drove → Type 0 where
   ended : Standing c []
   next : {r : Drove} {rs : List Drove} → r .told .number ≡ 0 → r .actuator .command ≡ c → Standing c rs → Standing c (r ∷ rs)
+  passed : {r : Drove} {rs : List Drove} → 0 < r .told .number → Standing c rs → Standing c (r ∷ rs)
 
 -- Under it the distance after k steps is the larger of 0 and the first distance less k times the rate: `_-_` does not go below 0.
 abbrev pub Distance-falls : Type 0
 Distance-falls = (t : Table) (bs : List Brought) (s : State) (a : Actuator) (c : ℤ) → Standing c (drives t bs s a)
-    → (k : ℕ) → k ≤ length bs → distance (position-after t bs s a k) c ≡ distance (a .position) c - k * a .rate
+    → (k : ℕ) → k ≤ length bs
+    → distance (position-after t bs s a k) c ≡ distance (a .position) c - steps-between (drives t bs s a) 0 k * a .rate
 
 -- q lies between p and c.
 pub record Between (p c q : ℤ) : Type 0 where

@@ -95,8 +95,10 @@ pub twenty : map number
     (record { position = pos 1000; command = pos 2000; rate = 0; thread = 0 }
     ∷ record { position = pos 1000; command = pos 2000; rate = 1001; thread = 0 }
     ∷ record { position = negℤ (pos 5001); command = pos 2000; rate = 100; thread = 0 }
+    ∷ record { position = pos 95001; command = pos 2000; rate = 100; thread = 0 }
+    ∷ record { position = pos 1000; command = negℤ (pos 5001); rate = 100; thread = 0 }
     ∷ record { position = pos 1000; command = pos 95001; rate = 100; thread = 0 } ∷ [])
-    ≡ 20 ∷ 20 ∷ 20 ∷ 20 ∷ []
+    ≡ 20 ∷ 20 ∷ 20 ∷ 20 ∷ 20 ∷ 20 ∷ []
 unfolding follows ranged in-range pick
 twenty = refl
 
@@ -114,6 +116,12 @@ along [] x a = []
 along (n ∷ ns) x a =
     let r = follows bench x fresh a (record { told = answered (values n); state = fresh }) in
     r .actuator .position ∷ along ns x (r .actuator)
+
+-- At first the command is the start position: thread 1's actuator at -300 stays there until thread 1 runs, and then moves by its rate, 7.
+pub at-first : along (IdleFor 1 ∷ Idle ∷ Ran 0 ∷ Ran 1 ∷ []) (pos 10000) (start (negℤ (pos 300)) 7 1)
+    ≡ negℤ (pos 300) ∷ negℤ (pos 300) ∷ negℤ (pos 300) ∷ negℤ (pos 293) ∷ []
+unfolding along follows commanded ran moved-to moved towards distance drawn ranged in-range start answer-of pick
+at-first = refl
 
 -- The story: the load monitor has the first four steps, the pitch loop runs at 4, 5 and 6, the actuator model at 7 and 8. A command
 -- of 10 degrees stands from step 4 on; at 0.25 degrees a step the position is 1.5 degrees after step 9.
