@@ -10,12 +10,12 @@ use Rattle.basis.specs.Tests.{pick}
 use Rattle.basis.specs.Told.{Told, answered}
 use Rattle.basis.proofs.TestLaws.{by-test, either}
 use Rattle.table.specs.declared.Table.{Table}
-use Rattle.scheduler.specs.Step.{step}
+use Rattle.walk.specs.Step.{step}
 use Rattle.scheduler.specs.Taken.{Taken, values, taken}
 use Rattle.scheduler.specs.Numbered.{Numbered, steps}
-use Rattle.scheduler.specs.declared.State.{State}
-use Rattle.scheduler.specs.declared.Answer.{Answer}
-use Rattle.scheduler.specs.declared.Answer.the-variants.{Ran, IdleFor, Idle}
+use Rattle.state.specs.declared.State.{State}
+use Rattle.walk.specs.declared.Answer.{Answer}
+use Rattle.walk.specs.declared.Answer.the-variants.{Ran, IdleFor, Idle}
 use Rattle.scheduler.proofs.RefusalLaws.{number-exactly, taken-steps}
 use Rattle.actuator.specs.Motion.{drawn}
 use Rattle.actuator.specs.Drive.{Brought, Drove, ran, commanded, moved-to, driven}

@@ -12,13 +12,13 @@ use Rattle.basis.specs.Tests.{pick}
 use Rattle.basis.specs.Told.{Told, answered, refused}
 use Rattle.basis.proofs.TestLaws.{both-ways}
 use Rattle.table.specs.declared.Table.{Table}
-use Rattle.scheduler.specs.Step.{step}
+use Rattle.walk.specs.Step.{step}
 use Rattle.scheduler.specs.Taken.{Taken, values, took, taken}
 use Rattle.scheduler.specs.Numbered.{Numbered, steps}
-use Rattle.scheduler.specs.Isolated.{answer-of}
-use Rattle.scheduler.specs.declared.State.{State}
-use Rattle.scheduler.specs.declared.Answer.{Answer}
-use Rattle.scheduler.specs.declared.Answer.the-variants.{Ran, IdleFor, Idle}
+use Rattle.scheduler.specs.Taken.{answer-of}
+use Rattle.state.specs.declared.State.{State}
+use Rattle.walk.specs.declared.Answer.{Answer}
+use Rattle.walk.specs.declared.Answer.the-variants.{Ran, IdleFor, Idle}
 use Rattle.scheduler.proofs.RefusalLaws.{number-exactly, taken-steps}
 use Rattle.actuator.specs.Motion.{in-range, ranged, drawn}
 use Rattle.actuator.specs.Drive.{Brought, Drove, ran, commanded, moved-to, refused-drive, follows, driven}

@@ -9,20 +9,23 @@ use borrow.Author.Tests.{eqb-true, eqb-false, eq-eqb, ne-eqb, lt-ltb}
 use lib.ListN.{length}
 use lib.Dec.{eqb, ltb}
 use lib.IntN.{ℤ}
+use Rattle.basis.specs.Turns.{in-turn}
 use Rattle.basis.specs.Tests.{pick, and}
 use Rattle.basis.specs.Told.{Told, answered, refused}
 use Rattle.basis.proofs.TestLaws.{by-test, either, both, both-ways, refuted, fails, and-both, and-of}
 use Rattle.table.specs.Legal.{legal, Sized}
 use Rattle.table.specs.declared.Table.{Table}
-use Rattle.scheduler.specs.State.{fresh}
+use Rattle.state.specs.State.{fresh}
 use Rattle.scheduler.specs.Taken.{Taken, taken}
-use Rattle.scheduler.specs.Shown.{visible, view, showing}
-use Rattle.scheduler.specs.Isolated.{calls, answer-of, telling, Shown-call, shown-of, Same-step, Same-steps, ended, next}
-use Rattle.scheduler.specs.declared.State.{State}
-use Rattle.scheduler.specs.declared.Answer.{Answer}
-use Rattle.scheduler.specs.declared.Answer.the-variants.{Ran, IdleFor, Idle}
+use Rattle.sight.specs.Shown.{visible, view, showing}
+use Rattle.scheduler.specs.Calls.{calls}
+use Rattle.scheduler.specs.Taken.{answer-of}
+use Rattle.isolation.specs.Isolated.{telling, Shown-call, shown-of, Same-step, Same-steps, ended, next}
+use Rattle.state.specs.declared.State.{State}
+use Rattle.walk.specs.declared.Answer.{Answer}
+use Rattle.walk.specs.declared.Answer.the-variants.{Ran, IdleFor, Idle}
 use Rattle.scheduler.proofs.RefusalLaws.{refused-keeps}
-use Rattle.scheduler.proofs.Isolation.{demand-3}
+use Rattle.isolation.proofs.Isolation.{demand-3}
 use Rattle.actuator.specs.Motion.{ranged, drawn}
 use Rattle.actuator.specs.Drive.{Brought, Drove, ran, commanded, moved-to, follows, driven}
 use Rattle.actuator.specs.Runs.{drives, positions, Same-runs, step-part, Isolated-drives, Same-positions}
@@ -143,7 +146,7 @@ module _ (t : Table) (ok : legal t ≡ true) (d : ℕ) (dd : d < t .domains) whe
   -- Passed: the drives are shown as the calls are.
   shown-drives : (bs : List Brought) (s : State) (a : Actuator) → accepted t a ≡ true
       → map (λ (r : Drove). shown-of t d (step-part r)) (drives t bs s a) ≡ map (shown-of t d) (calls t (sent bs) s)
-  unfolding drives calls
+  unfolding drives in-turn calls
   shown-drives [] s a h = refl
   shown-drives (b ∷ bs) s a h =
       let p : step-part (driven t b s a) ≡ taken t (b .bytes) s = part-taken t b s a h in
@@ -184,7 +187,7 @@ module _ (t : Table) (ok : legal t ≡ true) (d : ℕ) (dd : d < t .domains) whe
   same-actuators : (us vs : List Brought) (s r : State) (a : Actuator) → accepted t a ≡ true → visible t d (a .thread) ≡ true
       → map (shown-of t d) (calls t (sent us) s) ≡ map (shown-of t d) (calls t (sent vs) r) → wanted us ≡ wanted vs
       → map (λ (x : Drove). x .actuator) (drives t us s a) ≡ map (λ (x : Drove). x .actuator) (drives t vs r a)
-  unfolding drives calls
+  unfolding drives in-turn calls
   same-actuators [] [] s r a h v e k = refl
   same-actuators [] (c ∷ vs) s r a h v e k = empty k
   same-actuators (b ∷ us) [] s r a h v e k = empty (sym k)
@@ -201,7 +204,7 @@ module _ (t : Table) (ok : legal t ≡ true) (d : ℕ) (dd : d < t .domains) whe
 module _ (t : Table) (ok : legal t ≡ true) (z : Sized t) (d : ℕ) (dd : d < t .domains) where
   still-told : (a : Actuator) → accepted t a ≡ false → (b c : Brought) → Same-step t d (b .bytes) (c .bytes)
       → driven t b fresh a .told ≡ driven t c fresh a .told
-  unfolding shown-of calls
+  unfolding shown-of calls in-turn
   still-told a h b c m =
       let x : Told = taken t (b .bytes) fresh .told in
       let y : Told = taken t (c .bytes) fresh .told in
@@ -217,7 +220,7 @@ module _ (t : Table) (ok : legal t ≡ true) (z : Sized t) (d : ℕ) (dd : d < t
 
   still-shown : (a : Actuator) → accepted t a ≡ false → (us vs : List Brought) → Same-steps t d (sent us) (sent vs)
       → map (λ (r : Drove). shown-of t d (step-part r)) (drives t us fresh a) ≡ map (λ (r : Drove). shown-of t d (step-part r)) (drives t vs fresh a)
-  unfolding drives
+  unfolding drives in-turn
   still-shown a h [] [] ended = refl
   still-shown a h (b ∷ us) (c ∷ vs) (next m more) =
       let n = still-told a h b c m in
@@ -229,7 +232,7 @@ module _ (t : Table) (ok : legal t ≡ true) (z : Sized t) (d : ℕ) (dd : d < t
 
   still-actuators : (a : Actuator) → accepted t a ≡ false → (us vs : List Brought) → wanted us ≡ wanted vs
       → map (λ (r : Drove). r .actuator) (drives t us fresh a) ≡ map (λ (r : Drove). r .actuator) (drives t vs fresh a)
-  unfolding drives
+  unfolding drives in-turn
   still-actuators a h [] [] k = refl
   still-actuators a h [] (c ∷ vs) k = empty k
   still-actuators a h (b ∷ us) [] k = empty (sym k)

@@ -14,8 +14,8 @@ use Rattle.basis.specs.Tests.{pick, and}
 use Rattle.basis.proofs.TestLaws.{by-test, either, and-both, and-of}
 use Rattle.table.specs.declared.Table.{Table}
 use Rattle.scheduler.specs.Taken.{taken}
-use Rattle.scheduler.specs.Isolated.{answer-of}
-use Rattle.scheduler.specs.declared.State.{State}
+use Rattle.scheduler.specs.Taken.{answer-of}
+use Rattle.state.specs.declared.State.{State}
 use Rattle.actuator.specs.Motion.{in-range, ranged, distance, towards, moved}
 use Rattle.actuator.specs.Drive.{Brought, Drove, commanded, moved-to, follows, driven}
 use Rattle.actuator.specs.Runs.{Between}

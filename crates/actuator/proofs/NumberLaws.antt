@@ -15,7 +15,7 @@ use Rattle.basis.proofs.TestLaws.{by-test, either, both-ways, refuted, and-both
 use Rattle.table.specs.declared.Table.{Table}
 use Rattle.scheduler.specs.Taken.{taken}
 use Rattle.scheduler.specs.Numbered.{Numbered}
-use Rattle.scheduler.specs.declared.State.{State}
+use Rattle.state.specs.declared.State.{State}
 use Rattle.scheduler.proofs.RefusalLaws.{number-exactly, same-refusal}
 use Rattle.actuator.specs.Motion.{lowest, highest, in-range, ranged}
 use Rattle.actuator.specs.Drive.{Brought, Drove, follows, driven}

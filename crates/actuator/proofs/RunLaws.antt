@@ -8,10 +8,11 @@ use borrow.Author.Tests.{eq-eqb, ne-eqb, eqb-true, eqb-false}
 use lib.ListN.{length, getD, take}
 use lib.Dec.{eqb}
 use lib.IntN.{ℤ, pos}
+use Rattle.basis.specs.Turns.{in-turn}
 use Rattle.basis.specs.Tests.{pick}
 use Rattle.basis.proofs.TestLaws.{by-test, both-ways, either}
 use Rattle.table.specs.declared.Table.{Table}
-use Rattle.scheduler.specs.declared.State.{State}
+use Rattle.state.specs.declared.State.{State}
 use Rattle.actuator.specs.Motion.{drawn, distance, moved}
 use Rattle.actuator.specs.Drive.{Brought, Drove, commanded, moved-to, follows, driven}
 use Rattle.actuator.specs.Runs.{drives, positions, position-after, steps-among, Range-kept, Rate-kept, Standing, ended, next, passed, Distance-falls, Between, Never-overshoots, Call-between}
@@ -76,7 +77,7 @@ call-between t b s a = go (case-of t b s a)
     go (goes c r f e) = rw e (move-between (a .rate) (a .position) c (ranged-position a r) f)
 
 pub range-kept : Range-kept
-unfolding positions drives
+unfolding positions drives in-turn
 range-kept t bs s a i zero h = i
 range-kept t [] s a i (suc k) h = absurd (not-suc-le-zero h)
 range-kept t (b ∷ bs) s a i (suc k) h = range-kept t bs _ _ (range-stays t b s a i) k (le-of-suc-le-suc h)
@@ -89,7 +90,7 @@ refused-stands t b s a n = ap (λ (x : Actuator). x .position) (drive-refused-ke
 -- From the first position, and from any other.
 rate-from-first : (t : Table) (bs : List Brought) (s : State) (a : Actuator) (k : ℕ) → k ≤ length bs
     → distance (a .position) (position-after t bs s a k) ≤ steps-among (take k (drives t bs s a)) * a .rate
-unfolding positions drives steps-among
+unfolding positions drives in-turn steps-among
 rate-from-first t bs s a zero h = omega (arith, distance-self (a .position))
 rate-from-first t [] s a (suc k) h = absurd (not-suc-le-zero h)
 rate-from-first t (b ∷ bs) s a (suc k) h =
@@ -105,7 +106,7 @@ rate-from-first t (b ∷ bs) s a (suc k) h =
     subst (λ (p : ℤ). distance p q ≤ n * a .rate) (refused-stands t b s a (omega (arith, z))) rest′)
 
 pub rate-kept : Rate-kept
-unfolding positions drives
+unfolding positions drives in-turn
 rate-kept t bs s a zero k h = rw zero-add (rate-from-first t bs s a k (omega arith))
 rate-kept t [] s a (suc i) k h = let h′ : suc i + k ≤ 0 = h in absurd (omega arith)
 rate-kept t (b ∷ bs) s a (suc i) k h =
@@ -123,7 +124,7 @@ few-steps (r ∷ rs) (suc k) =
     (omega (arith, few-steps rs k)) (omega (arith, few-steps rs k))
 
 pub distance-falls : Distance-falls
-unfolding positions drives steps-among pick
+unfolding positions drives in-turn steps-among pick
 distance-falls t bs s a c z zero h = omega arith
 distance-falls t [] s a c z (suc k) h = absurd (not-suc-le-zero h)
 distance-falls t (b ∷ bs) s a c (next n e z) (suc k) h =
@@ -142,7 +143,7 @@ distance-falls t (b ∷ bs) s a c (passed n z) (suc k) h =
     rw (ne-eqb (r .told .number) 0 (λ e. omega (arith, n, e))) (rw (rate-stays t b s a, refused-stands t b s a n) at rest)
 
 pub never-overshoots : Never-overshoots
-unfolding positions drives
+unfolding positions drives in-turn
 never-overshoots t bs s a c z zero h = between-self (a .position) c
 never-overshoots t [] s a c z (suc k) h = absurd (not-suc-le-zero h)
 never-overshoots t (b ∷ bs) s a c (next n e z) (suc k) h =
@@ -160,7 +161,7 @@ pub data Brings (c : ℤ) : List Brought → Type 0 where
 
 pub brought-stands : (t : Table) (bs : List Brought) (s : State) (a : Actuator) (c : ℤ) → a .command ≡ c → Brings c bs
     → Standing c (drives t bs s a)
-unfolding drives
+unfolding drives in-turn
 brought-stands t [] s a c e z = ended
 brought-stands t (b ∷ bs) s a c e (again f z) =
     let r : Drove = driven t b s a in

@@ -1,7 +1,7 @@
 -- No second answer fits `drive`: from what an answer tells, the answer can be read back.
 use mathlib.Core.Path.{_≡_, sym, _∙_, ap}
 use Rattle.table.specs.declared.Table.{Table}
-use Rattle.scheduler.specs.declared.State.{State}
+use Rattle.state.specs.declared.State.{State}
 use Rattle.scheduler.proofs.UniqueLaws.{told-injective}
 use Rattle.actuator.specs.Drive.{Brought, Drove, driven, drove-of}
 use Rattle.actuator.specs.declared.Actuator.{Actuator}

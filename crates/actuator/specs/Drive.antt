@@ -9,10 +9,10 @@ use Rattle.basis.specs.Tests.{pick}
 use Rattle.basis.specs.Told.{Told, refused}
 use Rattle.table.specs.declared.Table.{Table}
 use Rattle.scheduler.specs.Taken.{Taken, taken, told}
-use Rattle.scheduler.specs.Isolated.{answer-of}
-use Rattle.scheduler.specs.declared.State.{State}
-use Rattle.scheduler.specs.declared.Answer.{Answer}
-use Rattle.scheduler.specs.declared.Answer.the-variants.{Ran, IdleFor, Idle}
+use Rattle.scheduler.specs.Taken.{answer-of}
+use Rattle.state.specs.declared.State.{State}
+use Rattle.walk.specs.declared.Answer.{Answer}
+use Rattle.walk.specs.declared.Answer.the-variants.{Ran, IdleFor, Idle}
 use Rattle.actuator.specs.Motion.{ranged, drawn, moved}
 use Rattle.actuator.specs.declared.Actuator.{Actuator}
 use Rattle.actuator.specs.declared.Driven.{Driven}

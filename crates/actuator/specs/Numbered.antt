@@ -5,7 +5,7 @@ use lib.IntN.{ℤ}
 use lib.Signed.{_≤ℤ_}
 use Rattle.table.specs.declared.Table.{Table}
 use Rattle.scheduler.specs.Numbered.{Numbered}
-use Rattle.scheduler.specs.declared.State.{State}
+use Rattle.state.specs.declared.State.{State}
 use Rattle.actuator.specs.Motion.{lowest, highest}
 use Rattle.actuator.specs.Drive.{Brought}
 use Rattle.actuator.specs.declared.Actuator.{Actuator}

@@ -8,13 +8,14 @@ use lib.Dec.{eqb}
 use lib.IntN.{ℤ, pos}
 use lib.Signed.{_≤ℤ_}
 use Rattle.basis.specs.Tests.{pick}
+use Rattle.basis.specs.Turns.{in-turn}
 use Rattle.table.specs.Legal.{legal, Sized}
 use Rattle.table.specs.declared.Table.{Table}
-use Rattle.scheduler.specs.State.{fresh}
+use Rattle.state.specs.State.{fresh}
 use Rattle.scheduler.specs.Taken.{Taken}
-use Rattle.scheduler.specs.Shown.{visible}
-use Rattle.scheduler.specs.Isolated.{shown-of, Same-steps}
-use Rattle.scheduler.specs.declared.State.{State}
+use Rattle.sight.specs.Shown.{visible}
+use Rattle.isolation.specs.Isolated.{shown-of, Same-steps}
+use Rattle.state.specs.declared.State.{State}
 use Rattle.actuator.specs.Motion.{distance}
 use Rattle.actuator.specs.Drive.{Brought, Drove, driven}
 use Rattle.actuator.specs.Numbered.{In-range}
@@ -23,8 +24,8 @@ use Rattle.actuator.specs.declared.Actuator.{Actuator}
 -- What each call of the drive gives, in turn: a call is handed the state and the actuator that the one before it handed back,
 -- refused or not.
 unfoldable pub drives : Table → List Brought → State → Actuator → List Drove
-drives t [] s a = []
-drives t (b ∷ more) s a = driven t b s a ∷ drives t more (driven t b s a .state) (driven t b s a .actuator)
+drives t bs s a =
+    in-turn (λ (b : Brought) (x : State × Actuator). driven t b (x .0) (x .1)) (λ (r : Drove). (r .state, r .actuator)) bs (s, a)
 
 -- The position before the first call, and after each.
 unfoldable pub positions : Table → List Brought → State → Actuator → List ℤ

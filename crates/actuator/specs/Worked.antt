@@ -2,18 +2,16 @@
 use Prim.Native.Nat.{ℕ, min}
 use mathlib.Core.Path.{_≡_, refl}
 use mathlib.Core.List.{List, [], _∷_, map}
-use lib.ListN.{replicate}
 use lib.IntN.{ℤ, pos, negsuc, negℤ}
 use Rattle.basis.specs.Tests.{pick}
+use Rattle.basis.specs.Turns.{in-turn}
 use Rattle.basis.specs.Told.{Told, answered, refused}
-use Rattle.table.specs.Threads.{none}
-use Rattle.table.specs.declared.Table.{Table}
-use Rattle.scheduler.specs.State.{fresh}
-use Rattle.scheduler.specs.Taken.{Taken, values}
-use Rattle.scheduler.specs.Isolated.{answer-of}
-use Rattle.scheduler.specs.declared.State.{State}
-use Rattle.scheduler.specs.declared.Answer.{Answer}
-use Rattle.scheduler.specs.declared.Answer.the-variants.{Ran, IdleFor, Idle}
+use Rattle.example.specs.Story.{story}
+use Rattle.state.specs.State.{fresh}
+use Rattle.scheduler.specs.Taken.{Taken, values, answer-of}
+use Rattle.state.specs.declared.State.{State}
+use Rattle.walk.specs.declared.Answer.{Answer}
+use Rattle.walk.specs.declared.Answer.the-variants.{Ran, IdleFor, Idle}
 use Rattle.actuator.specs.Motion.{lowest, highest, in-range, ranged, drawn, distance, towards, moved, start}
 use Rattle.actuator.specs.Drive.{Drove, ran, commanded, moved-to, follows}
 use Rattle.actuator.specs.declared.Actuator.{Actuator}
@@ -46,25 +44,13 @@ pub moves : moved 250 (negℤ (pos 100)) (pos 900) ∷ moved 250 (pos 100) (neg�
 unfolding moved towards distance pick
 moves = refl
 
--- The story's table, domains and threads alike: 0 is the pitch loop, 1 the actuator model, 2 the load monitor, which is private.
-abbrev pub bench : Table
-bench = record {
-  domains = 3;
-  count = 3;
-  rows = 7 ∷ 6 ∷ 4 ∷ replicate 13 0;
-  threads =
-      record { domain = 0; priority = 20; period = 10; offset = 0; budget = 3; deadline = 10; blocking = 0 }
-      ∷ record { domain = 1; priority = 10; period = 10; offset = 0; budget = 2; deadline = 10; blocking = 0 }
-      ∷ record { domain = 2; priority = 30; period = 10; offset = 0; budget = 4; deadline = 10; blocking = 3 } ∷ replicate 29 none;
-}
-
 -- The actuator at 1,000 whose last command is 2,000, with rate 100 and pitch thread 0.
 abbrev moving : Actuator
 moving = record { position = pos 1000; command = pos 2000; rate = 100; thread = 0 }
 
 -- What a drive with the command 0 gives after a step that tells this.
 abbrev after : Actuator → Told → Drove
-after a n = follows bench (pos 0) fresh a (record { told = n; state = fresh })
+after a n = follows story (pos 0) fresh a (record { told = n; state = fresh })
 
 abbrev gives : Told → ℤ → ℤ → Drove
 gives n p c = record { told = n; state = fresh; actuator = record { position = p; command = c; rate = 100; thread = 0 } }
@@ -112,20 +98,19 @@ ends-pass = refl
 
 -- The positions after each of a list of answers, with the same command number at each.
 unfoldable pub along : List Answer → ℤ → Actuator → List ℤ
-along [] x a = []
-along (n ∷ ns) x a =
-    let r = follows bench x fresh a (record { told = answered (values n); state = fresh }) in
-    r .actuator .position ∷ along ns x (r .actuator)
+along ns x a =
+    map (λ (r : Drove). r .actuator .position)
+    (in-turn (λ (n : Answer) (b : Actuator). follows story x fresh b (record { told = answered (values n); state = fresh })) (λ (r : Drove). r .actuator) ns a)
 
 -- At first the command is the start position: thread 1's actuator at -300 stays there until thread 1 runs, and then moves by its rate, 7.
 pub at-first : along (IdleFor 1 ∷ Idle ∷ Ran 0 ∷ Ran 1 ∷ []) (pos 10000) (start (negℤ (pos 300)) 7 1)
     ≡ negℤ (pos 300) ∷ negℤ (pos 300) ∷ negℤ (pos 300) ∷ negℤ (pos 293) ∷ []
-unfolding along follows commanded ran moved-to moved towards distance drawn ranged in-range start answer-of pick
+unfolding along in-turn follows commanded ran moved-to moved towards distance drawn ranged in-range start answer-of pick
 at-first = refl
 
 -- The story: the load monitor has the first four steps, the pitch loop runs at 4, 5 and 6, the actuator model at 7 and 8. A command
 -- of 10 degrees stands from step 4 on; at 0.25 degrees a step the position is 1.5 degrees after step 9.
-pub story : along (Ran 2 ∷ IdleFor 2 ∷ IdleFor 2 ∷ IdleFor 2 ∷ Ran 0 ∷ Ran 0 ∷ Ran 0 ∷ Ran 1 ∷ Ran 1 ∷ Idle ∷ []) (pos 10000) (start (pos 0) 250 0)
+pub story-moves : along (Ran 2 ∷ IdleFor 2 ∷ IdleFor 2 ∷ IdleFor 2 ∷ Ran 0 ∷ Ran 0 ∷ Ran 0 ∷ Ran 1 ∷ Ran 1 ∷ Idle ∷ []) (pos 10000) (start (pos 0) 250 0)
     ≡ map pos (0 ∷ 0 ∷ 0 ∷ 0 ∷ 250 ∷ 500 ∷ 750 ∷ 1000 ∷ 1250 ∷ 1500 ∷ [])
-unfolding along follows commanded ran moved-to moved towards distance drawn ranged in-range start answer-of pick
-story = refl
+unfolding along in-turn follows commanded ran moved-to moved towards distance drawn ranged in-range start answer-of pick
+story-moves = refl

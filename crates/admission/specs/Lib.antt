@@ -2,3 +2,4 @@ pub mod Demand
 pub mod Bounded
 pub mod Admit
 pub mod Prohibition
+pub mod Opened

@@ -2,3 +2,5 @@ pub mod TestLaws
 pub mod SearchLaws
 pub mod CeilLaws
 pub mod ListLaws
+pub mod TurnLaws
+pub mod BackLaws

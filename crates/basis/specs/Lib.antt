@@ -2,3 +2,4 @@ pub mod Tests
 pub mod Search
 pub mod Told
 pub mod Ceil
+pub mod Turns

@@ -13,7 +13,7 @@ use Rattle.basis.specs.Ceil.{ceil}
 use Rattle.basis.proofs.CeilLaws.{ceil-least, ceil-covers}
 use Rattle.basis.proofs.TestLaws.{by-test}
 use Rattle.table.specs.declared.Table.{Table}
-use Rattle.scheduler.specs.declared.State.{State}
+use Rattle.state.specs.declared.State.{State}
 use Rattle.bench.specs.Text.{Run, play, bytes-of, played, played-all, from}
 use Rattle.bench.proofs.PlayLaws.{Adds, play-adds}
 

@@ -14,11 +14,11 @@ use Rattle.basis.proofs.TestLaws.{by-test}
 use Rattle.basis.proofs.CeilLaws.{ceil-least}
 use Rattle.basis.specs.Told.{Told, answered, refused}
 use Rattle.table.specs.declared.Table.{Table}
-use Rattle.scheduler.specs.declared.Answer.{Answer}
-use Rattle.scheduler.specs.declared.State.{State}
+use Rattle.walk.specs.declared.Answer.{Answer}
+use Rattle.state.specs.declared.State.{State}
 use Rattle.scheduler.specs.declared.Outcome.{Outcome}
 use Rattle.scheduler.specs.declared.Outcome.the-variants.{Chose, Refused}
-use Rattle.scheduler.specs.Step.{step}
+use Rattle.walk.specs.Step.{step}
 use Rattle.scheduler.specs.Taken.{Taken, values, taken, took}
 use Rattle.scheduler.specs.Numbered.{Numbered, not-legal, not-fitting, not-one-each, at-last, steps}
 use Rattle.scheduler.proofs.RefusalLaws.{number-exactly, taken-steps}

@@ -7,11 +7,11 @@ use Rattle.basis.specs.Tests.{pick}
 use Rattle.basis.specs.Ceil.{ceil}
 use Rattle.table.specs.declared.Table.{Table}
 use Rattle.reader.specs.Reader.{Read, reading}
-use Rattle.scheduler.specs.State.{fresh}
-use Rattle.scheduler.specs.Step.{step}
+use Rattle.state.specs.State.{fresh}
+use Rattle.walk.specs.Step.{step}
 use Rattle.scheduler.specs.Taken.{Taken, taken}
-use Rattle.scheduler.specs.declared.Answer.{Answer}
-use Rattle.scheduler.specs.declared.State.{State}
+use Rattle.walk.specs.declared.Answer.{Answer}
+use Rattle.state.specs.declared.State.{State}
 use Rattle.report.specs.Lines.{threads-line, step-line, end-line, refused-line}
 
 -- A run: its lines so far, the state, and the number of the refusal that ended it (0: none did).

@@ -23,7 +23,7 @@ use scheduler::Answer;
 use scheduler::Outcome;
 use scheduler::State;
 use scheduler::Stepped;
-use scheduler::View;
+use sight::View;
 use table::Marking;
 use table::Table;
 
@@ -85,7 +85,7 @@ fn count_view(tally: &mut Tally, v: View) {
 
 // What a domain is shown of an answer, by both sides.
 fn shown(tally: &mut Tally, t: Table, domain: u8, a: Answer) {
-    let ours = scheduler::shown(t, domain, a);
+    let ours = sight::shown(t, domain, a);
     let theirs = rival::shown(t, domain, a);
     count_view(tally, ours);
     agree(tally, view_number(ours) == view_number(theirs));
@@ -93,7 +93,7 @@ fn shown(tally: &mut Tally, t: Table, domain: u8, a: Answer) {
 
 // What a domain is shown of a state, by both sides.
 fn shown_state(tally: &mut Tally, t: Table, s: State, domain: u8) {
-    let ours = scheduler::shown_state(t, s, domain);
+    let ours = sight::shown_state(t, s, domain);
     let theirs = rival::shown_state(t, s, domain);
     let a = ours.answer;
     let b = theirs.answer;

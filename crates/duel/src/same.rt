@@ -2,9 +2,9 @@
 use scheduler::Answer;
 use scheduler::Outcome;
 use scheduler::Progress;
-use scheduler::Showing;
 use scheduler::State;
-use scheduler::View;
+use sight::Showing;
+use sight::View;
 use table::Table;
 use table::Thread;
 

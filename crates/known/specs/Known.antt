@@ -4,32 +4,27 @@ use mathlib.Core.Path.{_≡_, refl}
 use mathlib.Core.List.{List, [], _∷_, _++_, map}
 use mathlib.Core.Bool.{Bool}
 use lib.ListN.{set, take, replicate}
-use Rattle.basis.specs.Tests.{pick, every, some}
-use Rattle.basis.specs.Search.{first, listed}
+use Rattle.basis.specs.Tests.{pick}
 use Rattle.basis.specs.Told.{Told}
-use Rattle.basis.specs.Ceil.{ceil}
-use Rattle.flow.specs.Flow.{flows, row-ok}
-use Rattle.flow.specs.Gap.{broken, gap-at, gap-by-c, gap-by-b, first-gap, gap-told}
+use Rattle.flow.specs.Gap.{first-gap, gap-told}
+use Rattle.table.specs.Legal.{legal}
+use Rattle.table.specs.Mark.{marking, marks-given}
 use Rattle.table.specs.declared.Table.{Table}
-use Rattle.table.specs.Ranges.{within, field-ranges, field-range}
-use Rattle.table.specs.Legal.{row-legal, field-ok, thread-ok, field-zero, thread-zero, taken, place-legal, legal}
-use Rattle.table.specs.Mark.{seen-by, hidden-below, marked, marks-of, marking, marks-given}
-use Rattle.numeral.specs.Number.{third, second, number, number-at, encode, encode-all}
-use Rattle.numeral.specs.Number.{told as number-told}
-use Rattle.writer.specs.Format.{row-numbers, thread-numbers, numbers, bytes}
-use Rattle.writer.specs.Writer.{overlaid, writing, written}
-use Rattle.reader.specs.Reader.{number-from, judged, ranged, row-from, rows-from, free, field-from, fields-from, threads-from, ended, after-rows, version-from, domains-from, count-from, reading}
-use Rattle.scheduler.specs.State.{fresh, place-fits, fits}
-use Rattle.scheduler.specs.Order.{holder, down, order}
-use Rattle.scheduler.specs.Step.{at-phase, released, release, pay, finish, heard, runs, count, decided, visit, walk, tick, ticked, advance, step}
-use Rattle.scheduler.specs.Taken.{taken as step-taken}
-use Rattle.scheduler.specs.Shown.{visible, view, showing}
-use Rattle.admission.specs.Demand.{sum, above, share, demand}
-use Rattle.admission.specs.Bounded.{enough, length-at, bound, bounding}
-use Rattle.admission.specs.Admit.{without-bound, first-without, bound-number, bounds-of, admitting, bounds-given}
-use Rattle.admission.specs.Prohibition.{stretch, prohibition, prohibiting}
-use Rattle.known.specs.Example.{example, example-bytes, later, lower, lower-with, row-too-many, two, upper, written-out}
-use Rattle.known.specs.Runs.{ran, idle-for, idle, run, answers-from, answers, after, left-after, resting, shown-to, short-deadlines}
+use Rattle.example.specs.Example.{example, example-bytes, upper, lower, waiting}
+use Rattle.numeral.specs.Number.{number-at, told as number-told}
+use Rattle.reader.specs.Reader.{reading}
+use Rattle.reader.specs.Opened.{opened as reader-opened}
+use Rattle.writer.specs.Format.{bytes}
+use Rattle.writer.specs.Writer.{writing, written}
+use Rattle.writer.specs.Opened.{opened as writer-opened}
+use Rattle.scheduler.specs.Opened.{opened as steps-opened}
+use Rattle.sight.specs.Opened.{opened as sight-opened}
+use Rattle.admission.specs.Bounded.{bounding}
+use Rattle.admission.specs.Admit.{admitting, bounds-given}
+use Rattle.admission.specs.Prohibition.{prohibiting}
+use Rattle.admission.specs.Opened.{opened as admission-opened}
+use Rattle.known.specs.Example.{later, lower-with, row-too-many, two, written-out}
+use Rattle.known.specs.Runs.{ran, idle-for, idle, answers-from, answers, left-after, resting, shown-to, short-deadlines}
 
 -- A statement of document 01: what the definitions compute, and what was found by hand.
 pub record Entry : Type 0 where
@@ -64,10 +59,7 @@ write-told b at t = flat (writing b at t) ++ written b at t
 abbrev admit-told : Table → List ℕ
 admit-told t = flat (admitting t) ++ bounds-given t
 
--- Thread 0 runs, waits twice, finishes, and then sends 1; and what E answers.
-abbrev waiting : List ℕ
-waiting = 1 ∷ 0 ∷ 0 ∷ 2 ∷ replicate 6 1
-
+-- What E answers in document 01's run.
 abbrev waited : List ℕ
 waited = ran 0 ∷ idle-for 0 ∷ idle-for 0 ∷ idle-for 0 ∷ ran 1 ∷ ran 1 ∷ ran 1 ∷ replicate 3 idle
 
@@ -198,5 +190,5 @@ known =
 
 -- The one claim.
 pub all-known : map (λ (e : Entry). e .computed) known ≡ map (λ (e : Entry). e .by-hand) known
-unfolding pick every some first listed flows row-ok broken gap-at gap-by-c gap-by-b first-gap within field-ranges field-range row-legal field-ok thread-ok field-zero thread-zero taken place-legal legal seen-by hidden-below marked marks-of marking marks-given third second number number-at encode encode-all row-numbers thread-numbers numbers bytes overlaid writing written number-from judged ranged row-from rows-from free field-from fields-from threads-from ended after-rows version-from domains-from count-from reading fresh place-fits fits holder down order at-phase released release pay finish heard runs count decided visit walk tick ticked advance step step-taken visible view showing ceil sum above share demand enough length-at bound bounding without-bound first-without bound-number bounds-of admitting bounds-given stretch prohibition prohibiting run after
+unfolding reader-opened writer-opened steps-opened sight-opened admission-opened
 all-known = refl

@@ -1,44 +1,43 @@
 -- Demand 3 for a class: one rule is changed, and a domain learns what it must not. In each lesson two runs differ in the bytes of
 -- threads hidden from a domain only, and the claims compute what that domain is told of each step.
-use Prim.Native.Nat.{ℕ, zero, suc, _+_, _-_}
+use Prim.Native.Nat.{ℕ, zero, suc, _+_}
 use mathlib.Core.Path.{_≡_, refl}
 use mathlib.Core.List.{List, [], _∷_, _++_, map}
 use mathlib.Core.Bool.{Bool, true, false, not}
 use lib.ListN.{length, getD, replicate}
 use lib.Dec.{eqb, ltb}
 use Rattle.basis.specs.Tests.{pick, and, or, every, some}
-use Rattle.basis.specs.Search.{first, listed}
+use Rattle.basis.specs.Search.{listed}
 use Rattle.basis.specs.Told.{Told, answered, refused}
-use Rattle.flow.specs.Flow.{flows, row-ok}
-use Rattle.flow.specs.Gap.{broken, gap-at, gap-by-c, gap-by-b, first-gap}
-use Rattle.table.specs.Threads.{none, thread}
-use Rattle.table.specs.Ranges.{within, field-ranges, field-range}
-use Rattle.table.specs.Legal.{row-legal, field-ok, thread-ok, field-zero, thread-zero, place-legal, legal}
-use Rattle.table.specs.Legal.{taken as priority-taken}
-use Rattle.table.specs.Mark.{seen-by, hidden-below, marked, marks-of}
+use Rattle.basis.specs.Turns.{in-turn}
+use Rattle.table.specs.Threads.{thread}
+use Rattle.table.specs.Mark.{seen-by, marks-of}
 use Rattle.table.specs.declared.Table.{Table}
 use Rattle.table.specs.declared.Thread.{Thread}
-use Rattle.scheduler.specs.State.{progress, put, place-fits, fits, fresh}
-use Rattle.scheduler.specs.Order.{holder, down, order}
-use Rattle.scheduler.specs.Step.{at-phase, released, release, pay, finish, heard, runs, count, walked, decided, visit, chosen, walk, tick, ticked, advance, step}
-use Rattle.scheduler.specs.Taken.{Taken, took, refused-step, taken}
-use Rattle.scheduler.specs.Paid.{releases}
-use Rattle.scheduler.specs.Shown.{visible, view}
-use Rattle.scheduler.specs.Isolated.{answer-of}
-use Rattle.scheduler.specs.declared.Progress.{Progress}
-use Rattle.scheduler.specs.declared.State.{State}
-use Rattle.scheduler.specs.declared.Answer.{Answer}
-use Rattle.scheduler.specs.declared.Answer.the-variants.{Ran, IdleFor, Idle}
-use Rattle.scheduler.specs.declared.Walked.{Walked}
+use Rattle.example.specs.Example.{table-of, task}
+use Rattle.state.specs.State.{with-rest, with-mark, progress, put, fits, fresh}
+use Rattle.state.specs.Release.{released, release, releases}
+use Rattle.state.specs.Methods.{pay, count}
+use Rattle.state.specs.declared.Progress.{Progress}
+use Rattle.state.specs.declared.State.{State}
+use Rattle.order.specs.Order.{down, order}
+use Rattle.walk.specs.Walk.{heard, runs, walked, decided, visit, chosen, walk}
+use Rattle.walk.specs.Step.{ticked, advance, step}
+use Rattle.walk.specs.declared.Answer.{Answer}
+use Rattle.walk.specs.declared.Answer.the-variants.{Ran, IdleFor, Idle}
+use Rattle.walk.specs.declared.Walked.{Walked}
+use Rattle.scheduler.specs.Taken.{Taken, took, refused-step, answer-of, taken}
+use Rattle.scheduler.specs.Opened.{opened as steps-opened}
+use Rattle.sight.specs.Shown.{visible, view}
+use Rattle.sight.specs.Opened.{opened as sight-opened}
 
 -- What a call of the step gives, by the right rules (`taken`) or by others.
 abbrev pub Call : Type 0
 Call = Table → List ℕ → State → Taken
 
 -- What each call gives, in turn.
-unfoldable pub run : (List ℕ → State → Taken) → List (List ℕ) → State → List Taken
-run f [] s = []
-run f (bs ∷ more) s = f bs s ∷ run f more (f bs s .state)
+abbrev pub run : (List ℕ → State → Taken) → List (List ℕ) → State → List Taken
+run f a s = in-turn f (λ (r : Taken). r .state) a s
 
 -- What d is told of a call: the number that refuses it, or what d is shown of its answer.
 unfoldable pub tells : Table → ℕ → Told → Told
@@ -46,7 +45,7 @@ tells t d r = pick (eqb (r .number) 0) (view t d (answer-of (r .values))) r
 
 -- What d is told of each call of a run from a fresh start. To open it is to open all that a run computes with.
 unfoldable pub trace : Call → Table → ℕ → List (List ℕ) → List Told
-unfolding pick every some first listed flows row-ok broken gap-at gap-by-c gap-by-b first-gap within field-ranges field-range row-legal field-ok thread-ok field-zero thread-zero priority-taken place-legal legal seen-by hidden-below marked marks-of place-fits fits fresh holder down order at-phase released release pay finish heard runs count decided visit walk tick ticked advance step taken releases visible view answer-of run tells
+unfolding steps-opened sight-opened tells
 trace f t d a = map (λ (r : Taken). tells t d (r .told)) (run (f t) a fresh)
 
 -- A call with f for the step, of a table that nobody tests: a state that does not fit is refused.
@@ -77,21 +76,12 @@ unfolding visiting step advance
 visiting-same t bs s = rw (walk-same (marks-of t))
 
 -- A thread of a domain, with a priority, a period and a budget; its offset is 0 and its deadline the period.
-abbrev task : ℕ → ℕ → ℕ → ℕ → Thread
-task d p period w = record { domain = d; priority = p; period = period; offset = 0; budget = w; deadline = period; blocking = 0 }
-
--- A table with these rows and threads.
-abbrev table-of : List ℕ → List Thread → Table
-table-of rows ths = record {
-  domains = length rows;
-  count = length ths;
-  rows = rows ++ replicate (16 - length rows) 0;
-  threads = ths ++ replicate (32 - length ths) none;
-}
+abbrev plain : ℕ → ℕ → ℕ → ℕ → Thread
+plain d p period w = task d p period 0 w period 0
 
 -- Domain 0 may flow to domain 1, which flows to itself only: a private thread above an open one.
 abbrev private-above : Table
-private-above = table-of (3 ∷ 2 ∷ []) (task 1 30 4 2 ∷ task 0 20 4 1 ∷ [])
+private-above = table-of (3 ∷ 2 ∷ []) (plain 1 30 4 2 ∷ plain 0 20 4 1 ∷ [])
 
 -- A lesson: the call with one rule changed, a domain of a table, and two lists of steps that differ in what is hidden from it.
 pub record Lesson : Type 0 where
@@ -131,7 +121,7 @@ seen-from-below f = record { changed = f; table = private-above; domain = 0; one
 abbrev pair-missing : Lesson
 pair-missing = record {
   changed = call step;
-  table = table-of (3 ∷ 6 ∷ 4 ∷ []) (task 0 30 4 2 ∷ task 1 20 4 1 ∷ []);
+  table = table-of (3 ∷ 6 ∷ 4 ∷ []) (plain 0 30 4 2 ∷ plain 1 20 4 1 ∷ []);
   domain = 2;
   one = running;
   other = waiting;
@@ -153,7 +143,7 @@ next-marks t = listed (t .count) (λ i. barred t i (down t (thread t i .priority
 abbrev next-only : Lesson
 next-only = record {
   changed = call (marking next-marks);
-  table = table-of (3 ∷ 2 ∷ []) (task 1 30 4 1 ∷ task 1 20 4 1 ∷ task 0 10 4 1 ∷ []);
+  table = table-of (3 ∷ 2 ∷ []) (plain 1 30 4 1 ∷ plain 1 20 4 1 ∷ plain 0 10 4 1 ∷ []);
   domain = 0;
   one = replicate 3 (1 ∷ 1 ∷ 1 ∷ []);
   other = replicate 3 (0 ∷ 1 ∷ 1 ∷ []);
@@ -234,7 +224,7 @@ unfoldable pub refill : Table → ℕ → State → State
 refill t zero s = s
 refill t (suc n) s =
     let p : Progress = progress s n in
-    let full : Progress = record { rest = p .rest + thread t n .budget; finished = false; ran = p .ran } in
+    let full : Progress = with-mark false (with-rest (p .rest + thread t n .budget) p) in
     put (refill t n s) n (pick (releases t n (s .clock)) full (released (thread t n) (s .clock) p))
 
 unfoldable pub refilling : Table → List ℕ → State → Walked
@@ -243,7 +233,7 @@ refilling t bs s = ticked (walk (marks-of t) bs (order t) (refill t (t .count) s
 abbrev added : Lesson
 added = record {
   changed = call refilling;
-  table = table-of (3 ∷ 2 ∷ []) (task 0 30 2 1 ∷ task 1 20 2 1 ∷ task 1 10 2 1 ∷ []);
+  table = table-of (3 ∷ 2 ∷ []) (plain 0 30 2 1 ∷ plain 1 20 2 1 ∷ plain 1 10 2 1 ∷ []);
   domain = 0;
   one = replicate 4 (1 ∷ 1 ∷ 1 ∷ []);
   other = replicate 4 (1 ∷ 0 ∷ 1 ∷ []);
@@ -319,7 +309,7 @@ heard-unreached-passes = refl
 abbrev free-wait : Lesson
 free-wait = record {
   changed = call (visiting (paying pay free));
-  table = table-of (3 ∷ 2 ∷ []) (task 0 30 4 2 ∷ task 1 20 4 1 ∷ []);
+  table = table-of (3 ∷ 2 ∷ []) (plain 0 30 4 2 ∷ plain 1 20 4 1 ∷ []);
   domain = 0;
   one = (0 ∷ 1 ∷ []) ∷ (1 ∷ 1 ∷ []) ∷ (1 ∷ 1 ∷ []) ∷ [];
   other = (0 ∷ 0 ∷ []) ∷ (1 ∷ 0 ∷ []) ∷ (1 ∷ 0 ∷ []) ∷ [];
@@ -339,7 +329,7 @@ right-answers = refl
 
 -- In every lesson the two runs have the same bytes for each thread that the domain may see.
 unfoldable pub differ-hidden : Table → ℕ → List (List ℕ) → List (List ℕ) → Bool
-unfolding every flows seen-by visible
+unfolding sight-opened
 differ-hidden t d [] [] = true
 differ-hidden t d [] (cs ∷ vs) = false
 differ-hidden t d (bs ∷ us) [] = false

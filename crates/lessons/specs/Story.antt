@@ -6,41 +6,23 @@ use mathlib.Core.List.{List, [], _∷_, _++_, map}
 use mathlib.Core.Bool.{true, false}
 use lib.ListN.{replicate, take}
 use Rattle.basis.specs.Told.{Told, answered}
-use Rattle.table.specs.Threads.{none}
 use Rattle.table.specs.Legal.{legal}
 use Rattle.table.specs.Mark.{marks-of}
-use Rattle.table.specs.declared.Table.{Table}
-use Rattle.scheduler.specs.State.{fresh}
+use Rattle.example.specs.Story.{story, monitor-sends}
+use Rattle.state.specs.State.{fresh}
 use Rattle.scheduler.specs.Taken.{Taken, values, taken}
 use Rattle.lessons.specs.Lessons.{Call, run, trace, call, marking, no-marks, gap, shown}
-use Rattle.scheduler.specs.declared.Answer.{Answer}
-use Rattle.scheduler.specs.declared.Answer.the-variants.{Ran, IdleFor, Idle}
-
--- Domains and threads alike: 0 is the pitch loop, 1 the actuator model, 2 the load monitor. The pitch loop may flow to all, the
--- actuator model to the monitor, and the monitor to nobody else.
-abbrev pub bench : Table
-bench = record {
-  domains = 3;
-  count = 3;
-  rows = 7 ∷ 6 ∷ 4 ∷ replicate 13 0;
-  threads =
-      record { domain = 0; priority = 20; period = 10; offset = 0; budget = 3; deadline = 10; blocking = 0 }
-      ∷ record { domain = 1; priority = 10; period = 10; offset = 0; budget = 2; deadline = 10; blocking = 0 }
-      ∷ record { domain = 2; priority = 30; period = 10; offset = 0; budget = 4; deadline = 10; blocking = 3 } ∷ replicate 29 none;
-}
+use Rattle.walk.specs.declared.Answer.{Answer}
+use Rattle.walk.specs.declared.Answer.the-variants.{Ran, IdleFor, Idle}
 
 -- The table is legal, and the monitor is marked.
-pub bench-legal : legal bench ≡ true
+pub story-legal : legal story ≡ true
 unfolding trace
-bench-legal = refl
+story-legal = refl
 
-pub monitor-marked : take 3 (marks-of bench) ≡ false ∷ false ∷ true ∷ []
+pub monitor-marked : take 3 (marks-of story) ≡ false ∷ false ∷ true ∷ []
 unfolding trace
 monitor-marked = refl
-
--- The pitch loop and the actuator model send 1 at every step, and the monitor these bytes.
-abbrev pub monitor-sends : List ℕ → List (List ℕ)
-monitor-sends xs = map (λ (x : ℕ). 1 ∷ 1 ∷ x ∷ []) xs
 
 -- It runs at clock 0 and waits from then on, or it never waits.
 abbrev pub once : List ℕ
@@ -51,10 +33,10 @@ always = replicate 10 1
 
 -- What a run with these bytes of the monitor answers, and what the pitch loop's domain is told of it.
 abbrev answers : Call → List ℕ → List Told
-answers f xs = map (λ (r : Taken). r .told) (run (f bench) (monitor-sends xs) fresh)
+answers f xs = map (λ (r : Taken). r .told) (run (f story) (monitor-sends xs) fresh)
 
 abbrev pitch-told : Call → List ℕ → List Told
-pitch-told f xs = trace f bench 0 (monitor-sends xs)
+pitch-told f xs = trace f story 0 (monitor-sends xs)
 
 -- It is shown its own thread three times, from clock n on.
 abbrev from-clock : ℕ → List Told
@@ -73,7 +55,7 @@ pub handed-down : answers (call (marking no-marks)) once ≡ told (Ran 2 ∷ Ran
 unfolding trace call marking no-marks
 handed-down = refl
 
--- The pitch loop's domain is told the same whether the monitor waits or not; so it is whatever the monitor sends (`StoryIsolated`).
+-- The pitch loop's domain is told the same whether the monitor waits or not; so it is whatever the monitor sends (`isolation/proofs/OnStory.antt`).
 pub pitch-ours : pitch-told taken once ∷ pitch-told taken always ∷ [] ≡ from-clock 4 ∷ from-clock 4 ∷ []
 unfolding trace
 pitch-ours = refl

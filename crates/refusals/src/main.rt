@@ -4,7 +4,7 @@ use reader::Verdict;
 use scheduler::Answer;
 use scheduler::Outcome;
 use scheduler::State;
-use scheduler::View;
+use sight::View;
 use table::Marking;
 use table::Table;
 use writer::Writing;
@@ -115,7 +115,7 @@ fn steps(s: State, bytes: &[u8], what: &[u8]) {
 }
 
 fn shows(domain: u8, what: &[u8]) {
-    let v = scheduler::shown(example(), domain, Answer::Idle);
+    let v = sight::shown(example(), domain, Answer::Idle);
     say(view_number(v));
     io::write_all(1, b": shown, ");
     io::write_all(1, what);

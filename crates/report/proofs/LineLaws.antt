@@ -3,8 +3,8 @@ use Prim.Native.Nat.{ℕ, _+_, _^_, _≤_, _<_}
 use mathlib.Core.List.{List, [], _∷_, _++_}
 use native.Mathlib.Omega.{arith}
 use lib.ListN.{length, length-append}
-use Rattle.scheduler.specs.declared.Answer.{Answer}
-use Rattle.scheduler.specs.declared.Answer.the-variants.{Ran, IdleFor, Idle}
+use Rattle.walk.specs.declared.Answer.{Answer}
+use Rattle.walk.specs.declared.Answer.the-variants.{Ran, IdleFor, Idle}
 use Rattle.report.specs.Decimal.{decimal}
 use Rattle.report.specs.Lines.{choice, counted-line, step-line, refused-line, refused-word, space, line-feed}
 use Rattle.report.proofs.DecimalLaws.{decimal-long, decimal-short}

@@ -2,3 +2,4 @@ pub mod Decimal
 pub mod Lines
 pub mod Printing
 pub mod Samples
+pub mod Opened

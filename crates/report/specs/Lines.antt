@@ -1,8 +1,8 @@
 -- The lines that program bench prints, as bytes. Every line ends in LF.
 use Prim.Native.Nat.{ℕ}
 use mathlib.Core.List.{List, [], _∷_, _++_}
-use Rattle.scheduler.specs.declared.Answer.{Answer}
-use Rattle.scheduler.specs.declared.Answer.the-variants.{Ran, IdleFor, Idle}
+use Rattle.walk.specs.declared.Answer.{Answer}
+use Rattle.walk.specs.declared.Answer.the-variants.{Ran, IdleFor, Idle}
 use Rattle.report.specs.Decimal.{decimal}
 
 abbrev pub space : List ℕ

@@ -4,10 +4,10 @@ use crate::judge::legal;
 use crate::relation::flows;
 use scheduler::Answer;
 use scheduler::Progress;
-use scheduler::Showing;
-use scheduler::ShownState;
 use scheduler::State;
-use scheduler::View;
+use sight::Showing;
+use sight::ShownState;
+use sight::View;
 use table::Table;
 
 // Whether i is a thread of the table and its domain may flow to this one.

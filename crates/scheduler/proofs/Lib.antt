@@ -1,12 +1,4 @@
-pub mod WalkLaws
-pub mod OrderLaws
-pub mod FitLaws
-pub mod StepLaws
 pub mod RefusalLaws
 pub mod HeardLaws
-pub mod PaidLaws
 pub mod UniqueLaws
-pub mod IsolatedAlike
-pub mod IsolatedWalk
-pub mod Isolation
-pub mod IsolatedKnown
+pub mod CallLaws

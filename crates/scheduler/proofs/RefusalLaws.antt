@@ -13,9 +13,9 @@ use Rattle.basis.specs.Tests.{pick}
 use Rattle.basis.proofs.TestLaws.{by-test, both-ways}
 use Rattle.table.specs.Legal.{legal}
 use Rattle.table.specs.declared.Table.{Table}
-use Rattle.scheduler.specs.declared.State.{State}
-use Rattle.scheduler.specs.State.{last-clock, fits}
-use Rattle.scheduler.specs.Step.{step}
+use Rattle.state.specs.declared.State.{State}
+use Rattle.state.specs.State.{last-clock, fits}
+use Rattle.walk.specs.Step.{step}
 use Rattle.scheduler.specs.Taken.{Taken, took, taken}
 use Rattle.scheduler.specs.Numbered.{Numbered, not-legal, not-fitting, not-one-each, at-last, steps}
 

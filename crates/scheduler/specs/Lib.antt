@@ -1,10 +1,4 @@
-pub mod State
-pub mod Order
-pub mod Given
-pub mod Step
 pub mod Taken
 pub mod Numbered
-pub mod Heard
-pub mod Paid
-pub mod Shown
-pub mod Isolated
+pub mod Calls
+pub mod Opened

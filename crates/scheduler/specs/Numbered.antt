@@ -7,8 +7,8 @@ use mathlib.Core.Logic.{_≢_}
 use lib.ListN.{length}
 use Rattle.table.specs.Legal.{legal}
 use Rattle.table.specs.declared.Table.{Table}
-use Rattle.scheduler.specs.State.{last-clock, fits}
-use Rattle.scheduler.specs.declared.State.{State}
+use Rattle.state.specs.State.{last-clock, fits}
+use Rattle.state.specs.declared.State.{State}
 
 pub data Numbered (t : Table) (bs : List ℕ) (s : State) : ℕ → Type 0 where
   -- 11: the table is not legal

@@ -7,12 +7,12 @@ use Rattle.basis.specs.Tests.{pick}
 use Rattle.basis.specs.Told.{Told, answered, refused}
 use Rattle.table.specs.Legal.{legal}
 use Rattle.table.specs.declared.Table.{Table}
-use Rattle.scheduler.specs.State.{last-clock, fits}
-use Rattle.scheduler.specs.Step.{step}
-use Rattle.scheduler.specs.declared.State.{State}
-use Rattle.scheduler.specs.declared.Answer.{Answer}
-use Rattle.scheduler.specs.declared.Answer.the-variants.{Ran, IdleFor, Idle}
-use Rattle.scheduler.specs.declared.Walked.{Walked}
+use Rattle.state.specs.State.{last-clock, fits}
+use Rattle.walk.specs.Step.{step}
+use Rattle.state.specs.declared.State.{State}
+use Rattle.walk.specs.declared.Answer.{Answer}
+use Rattle.walk.specs.declared.Answer.the-variants.{Ran, IdleFor, Idle}
+use Rattle.walk.specs.declared.Walked.{Walked}
 use Rattle.scheduler.specs.declared.Outcome.{Outcome}
 use Rattle.scheduler.specs.declared.Outcome.the-variants.{Chose, Refused}
 use Rattle.scheduler.specs.declared.Stepped.{Stepped}
@@ -22,6 +22,12 @@ abbrev pub values : Answer → List ℕ
 values (Ran i) = 0 ∷ i ∷ []
 values (IdleFor i) = 1 ∷ i ∷ []
 values Idle = 2 ∷ []
+
+-- The answer that a call's values tell: 0 and the thread that ran, 1 and the thread that the processor idles for, 2 for idle.
+unfoldable pub answer-of : List ℕ → Answer
+answer-of [] = Idle
+answer-of (kind ∷ []) = Idle
+answer-of (kind ∷ i ∷ more) = pick (eqb kind 0) (Ran i) (IdleFor i)
 
 -- Document 01's number and values of an outcome.
 abbrev pub told : Outcome → Told

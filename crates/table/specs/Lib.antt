@@ -2,3 +2,4 @@ pub mod Threads
 pub mod Ranges
 pub mod Legal
 pub mod Mark
+pub mod Opened

@@ -1,3 +1,4 @@
 pub mod Format
 pub mod Buffer
 pub mod Writer
+pub mod Opened

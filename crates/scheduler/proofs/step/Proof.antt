@@ -8,22 +8,23 @@ use lib.ListN.{length}
 use Rattle.basis.specs.Tests.{pick}
 use Rattle.basis.proofs.ListLaws.{long-of}
 use Rattle.table.specs.Legal.{legal, Sized}
-use Rattle.scheduler.specs.State.{fits, Fits}
-use Rattle.scheduler.specs.Given.{Usable, Below}
-use Rattle.scheduler.specs.Order.{order}
-use Rattle.scheduler.specs.Step.{step}
+use Rattle.state.specs.State.{fits, Fits}
+use Rattle.state.specs.Given.{Usable}
+use Rattle.order.specs.Order.{Below}
+use Rattle.order.specs.Order.{order}
+use Rattle.walk.specs.Step.{step}
 use Rattle.scheduler.specs.Taken.{taken}
-use Rattle.scheduler.proofs.OrderLaws.{order-below}
-use Rattle.scheduler.proofs.FitLaws.{fits-sound, usable}
+use Rattle.order.proofs.OrderLaws.{order-below}
+use Rattle.state.proofs.FitLaws.{fits-sound, usable}
 use borrow.Author.Needs.{needs}
 use Rattle.scheduler.proofs.step.Statement.{statement}
 use Rattle.scheduler.proofs.step.Tie as tie
 use Rattle.scheduler.proofs.step.Reads as reads
 use Rattle.scheduler.proofs.step.Lts as lts
-use Rattle.scheduler.proofs.fit.fits.Reads as fits-reads
-use Rattle.scheduler.proofs.order.prepare.Reads as prepare-reads
+use Rattle.state.proofs.fits.Reads as fits-reads
+use Rattle.walk.proofs.prepare.Reads as prepare-reads
 use Rattle.scheduler.proofs.refuse.Reads as refuse-reads
-use Rattle.scheduler.proofs.walk.advance.Reads as advance-reads
+use Rattle.walk.proofs.advance.Reads as advance-reads
 use Rattle.table.proofs.legal.Reads as legal-reads
 
 -- The table's and the state's sizes are their types'.

@@ -8,7 +8,7 @@ use Rattle.pitch.proofs.play.play.Lts as lts
 use Rattle.pitch.proofs.play.roll.Reads as roll-reads
 use Rattle.pitch.proofs.play.round.Reads as round-reads
 use Rattle.pitch.proofs.play.table.Reads as table-reads
-use Rattle.scheduler.proofs.fresh.Reads as fresh-reads
+use Rattle.state.proofs.fresh.Reads as fresh-reads
 
 abbrev Inv-loop : tie.InvT-loop
 Inv-loop seed t g₀ dice₀ k₀ g dice k = k ≤ 30

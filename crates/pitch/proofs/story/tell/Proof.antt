@@ -9,7 +9,7 @@ use Rattle.actuator.proofs.start.Reads as start-reads
 use Rattle.pitch.proofs.story.bench.Reads as bench-reads
 use Rattle.pitch.proofs.story.say_step.Reads as say-step-reads
 use Rattle.pitch.proofs.story.turn.Reads as turn-reads
-use Rattle.scheduler.proofs.fresh.Reads as fresh-reads
+use Rattle.state.proofs.fresh.Reads as fresh-reads
 
 abbrev Inv-loop : tie.InvT-loop
 Inv-loop t s₀ a₀ clock₀ s a clock = clock ≤ 30

@@ -1,0 +1,1 @@
+// No code: the tables and bytes that the worked examples share.

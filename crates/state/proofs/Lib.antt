@@ -1,0 +1,4 @@
+pub mod StateLaws
+pub mod ReleaseLaws
+pub mod FitLaws
+pub mod AccountLaws

@@ -1,0 +1,4 @@
+pub mod State
+pub mod Release
+pub mod Methods
+pub mod Given

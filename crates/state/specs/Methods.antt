@@ -1,0 +1,31 @@
+-- What the methods on the state do, each to one thread or to the clock.
+use Prim.Native.Nat.{ℕ, _+_, _-_}
+use mathlib.Core.Bool.{true}
+use Rattle.state.specs.State.{with-rest, with-mark, with-count, progress, put}
+use Rattle.state.specs.declared.Progress.{Progress}
+use Rattle.state.specs.declared.State.{State}
+
+-- A reached thread pays one.
+abbrev pub paid : Progress → Progress
+paid p = with-rest (p .rest - 1) p
+
+unfoldable pub pay : State → ℕ → State
+pay s i = put s i (paid (progress s i))
+
+-- Finish sets the finish mark.
+abbrev pub done : Progress → Progress
+done p = with-mark true p
+
+unfoldable pub finish : State → ℕ → State
+finish s i = put s i (done (progress s i))
+
+-- The count of a thread that runs goes up by one.
+abbrev pub counted : Progress → Progress
+counted p = with-count (p .ran + 1) p
+
+unfoldable pub count : State → ℕ → State
+count s i = put s i (counted (progress s i))
+
+-- The clock goes up by one.
+unfoldable pub tick : State → State
+tick s = record { clock = s .clock + 1; threads = s .threads }

@@ -1,0 +1,60 @@
+-- The state: a clock, and for each thread the rest of its budget, a finish mark and a count of steps run.
+use Prim.Native.Nat.{ℕ, _≤_, _<_}
+use mathlib.Core.Path.{_≡_}
+use mathlib.Core.Bool.{Bool, false, not}
+use lib.ListN.{length, getD, set, replicate}
+use lib.Dec.{eqb, ltb, leb}
+use Rattle.basis.specs.Tests.{pick, and, every}
+use Rattle.table.specs.Threads.{thread}
+use Rattle.table.specs.declared.Table.{Table}
+use Rattle.state.specs.declared.Progress.{Progress}
+use Rattle.state.specs.declared.State.{State}
+
+-- A progress is written out here only: what stands in a place that is not in use, zero and unmarked, and one with another value for a field.
+abbrev pub no-progress : Progress
+no-progress = record { rest = 0; finished = false; ran = 0 }
+
+abbrev pub with-rest : ℕ → Progress → Progress
+with-rest n p = record { rest = n; finished = p .finished; ran = p .ran }
+
+abbrev pub with-mark : Bool → Progress → Progress
+with-mark b p = record { rest = p .rest; finished = b; ran = p .ran }
+
+abbrev pub with-count : ℕ → Progress → Progress
+with-count n p = record { rest = p .rest; finished = p .finished; ran = n }
+
+-- The progress of thread i, and the state with another progress for it.
+abbrev pub progress : State → ℕ → Progress
+progress s i = getD (s .threads) i no-progress
+
+abbrev pub put : State → ℕ → Progress → State
+put s i p = record { clock = s .clock; threads = set (s .threads) i p }
+
+-- Fresh: all zero, no mark.
+unfoldable pub fresh : State
+fresh = record { clock = 0; threads = replicate 32 no-progress }
+
+-- The last clock: a step is refused there.
+abbrev pub last-clock : ℕ
+last-clock = 1000000000
+
+-- The progress p of thread i fits at clock c: its rest is at most W, its count at most the clock; past the last thread it is zero and unmarked.
+unfoldable pub place-fits : Table → ℕ → ℕ → Progress → Bool
+place-fits t c i p =
+    pick (ltb i (t .count)) (and (leb (p .rest) (thread t i .budget)) (leb (p .ran) c))
+    (and (eqb (p .rest) 0) (and (not (p .finished)) (eqb (p .ran) 0)))
+
+unfoldable pub fits : Table → State → Bool
+fits t s = and (leb (s .clock) last-clock) (every 32 (λ i. place-fits t (s .clock) i (progress s i)))
+
+-- The plain reading of a place that fits.
+pub record Place-fits (t : Table) (c i : ℕ) (p : Progress) : Type 0 where
+  pub rest-high : i < t .count → p .rest ≤ thread t i .budget
+  pub ran-high : p .ran ≤ c
+  pub unused : t .count ≤ i → p ≡ no-progress
+
+-- The plain reading of a state that fits its table.
+pub record Fits (t : Table) (s : State) : Type 0 where
+  pub clock-high : s .clock ≤ last-clock
+  pub long : length (s .threads) ≡ 32
+  pub places : (i : ℕ) → Place-fits t (s .clock) i (progress s i)

@@ -1,0 +1,61 @@
+// The methods on the state, each by value: pay, finish and tick, which document 01 names, and count return the next state.
+ghost use mathlib.Core.Path.{_≡_};
+ghost use Prim.Native.Nat.{_<_};
+ghost use Rattle.state.specs.State.{no-progress, progress, last-clock};
+ghost use Rattle.state.specs.Methods.{pay, finish, count, tick};
+use super::Progress;
+use super::State;
+
+pub fn no_progress() -> Progress
+    ensures { λ r. ⌜ r ≡ no-progress ⌝ }
+{
+    Progress {
+        rest: 0,
+        finished: false,
+        ran: 0,
+    }
+}
+
+impl State {
+    // Thread i pays one of its rest.
+    pub fn pay(mut self, i: u8) -> State
+        requires { ⌜ (i < 32) × (0 < progress self i .rest) ⌝ }
+        ensures { λ r. ⌜ r ≡ pay self i ⌝ }
+    {
+        let mut p = self.threads[i as usize];
+        p.rest = p.rest - 1;
+        self.threads[i as usize] = p;
+        self
+    }
+
+    // Thread i is marked as finished.
+    pub fn finish(mut self, i: u8) -> State
+        requires { ⌜ i < 32 ⌝ }
+        ensures { λ r. ⌜ r ≡ finish self i ⌝ }
+    {
+        let mut p = self.threads[i as usize];
+        p.finished = true;
+        self.threads[i as usize] = p;
+        self
+    }
+
+    // Thread i ran one step more.
+    pub fn count(mut self, i: u8) -> State
+        requires { ⌜ (i < 32) × (progress self i .ran < last-clock) ⌝ }
+        ensures { λ r. ⌜ r ≡ count self i ⌝ }
+    {
+        let mut p = self.threads[i as usize];
+        p.ran = p.ran + 1;
+        self.threads[i as usize] = p;
+        self
+    }
+
+    // The clock goes up by one.
+    pub fn tick(mut self) -> State
+        requires { ⌜ self .clock < last-clock ⌝ }
+        ensures { λ r. ⌜ r ≡ tick self ⌝ }
+    {
+        self.clock = self.clock + 1;
+        self
+    }
+}

@@ -1,0 +1,164 @@
+-- Who is chosen, and who is left alone: a visit touches its own thread only, and a list that falls has each thread once.
+use Prim.Native.Nat.{ℕ, _+_, _<_}
+use mathlib.Core.Path.{_≡_, refl, sym, _∙_, ap}
+use mathlib.Core.List.{List, [], _∷_}
+use mathlib.Core.Bool.{Bool, true, false, not, true≢false}
+use mathlib.Core.Logic.{_≢_, ⊎-elim}
+use native.Mathlib.Omega.{arith}
+use native.Mathlib.Nat.{lt-trans}
+use borrow.Author.Tests.{ne-eqb, eqb-true}
+use lib.ListN.{length, getD, length-set}
+use lib.Seq.{getD-set-same, getD-set-other}
+use lib.Dec.{eqb}
+use Rattle.basis.specs.Tests.{pick, and}
+use Rattle.basis.proofs.TestLaws.{both-ways, either, by-test, refuted, fails, and-both}
+use Rattle.table.specs.Threads.{thread}
+use Rattle.table.specs.Legal.{Legal}
+use Rattle.table.specs.Mark.{marked, marks-of}
+use Rattle.table.specs.declared.Table.{Table}
+use Rattle.table.proofs.MarkLaws.{marks-at}
+use Rattle.state.specs.State.{no-progress, progress, put}
+use Rattle.state.specs.Release.{release}
+use Rattle.state.specs.Methods.{paid, pay, finish, counted, count, tick}
+use Rattle.state.specs.declared.Progress.{Progress}
+use Rattle.state.specs.declared.State.{State}
+use Rattle.order.specs.Order.{order, Stands}
+use Rattle.order.proofs.OrderLaws.{Falling-from, order-falls-from, order-whole}
+use Rattle.walk.specs.Walk.{heard, runs, walked, decided, visit, chosen, walk}
+use Rattle.walk.specs.Step.{ticked, advance, step, Names, ran, idles}
+use Rattle.walk.specs.declared.Answer.{Answer}
+use Rattle.walk.specs.declared.Answer.the-variants.{Ran, IdleFor, Idle}
+use Rattle.walk.specs.declared.Walked.{Walked}
+use Rattle.walk.proofs.WalkLaws.{walk-on, walk-stop}
+use Rattle.walk.proofs.ReachedLaws.{marked-ends}
+
+put-other : (s : State) (i k : ℕ) (p : Progress) → k ≢ i → progress (put s i p) k ≡ progress s k
+put-other s i k p d = getD-set-other (s .threads) i k p no-progress d
+
+put-same : (s : State) (i : ℕ) (p : Progress) → i < length (s .threads) → progress (put s i p) i ≡ p
+put-same s i p l = getD-set-same (s .threads) i p no-progress l
+
+-- Threads of different priority are two.
+apart : (t : Table) (k j : ℕ) → thread t k .priority < thread t j .priority → k ≢ j
+apart t k j l e = let q : thread t j .priority < thread t j .priority = rw e at l in omega arith
+
+own-run : (k i : ℕ) → Names k (Ran i) → k ≡ i
+own-run k i ran = refl
+
+own-idle : (k i : ℕ) → Names k (IdleFor i) → k ≡ i
+own-idle k i idles = refl
+
+nobody : {A : Type 0} (k : ℕ) → Names k Idle → A
+nobody k n = elim n [ ]
+
+module _ (m : List Bool) (b i : ℕ) (s : State) where
+  -- A visit touches its own thread only.
+  pub visit-others : (k : ℕ) → k ≢ i → progress (visit m b i s .state) k ≡ progress s k
+  unfolding visit decided heard finish pay count
+  visit-others k d =
+      let Q : State → Type 0 = λ x. progress x k ≡ progress s k in
+      let P : Walked → Type 0 = λ w. progress (w .state) k ≡ progress s k in
+      let h : progress (heard b i s) k ≡ progress s k = both-ways Q _ _ _ (put-other s i k _ d) refl in
+      let q : progress (pay (heard b i s) i) k ≡ progress s k = put-other (heard b i s) i k _ d ∙ h in
+      both-ways P _ _ _ refl (both-ways P _ _ _ (put-other (pay (heard b i s) i) i k _ d ∙ q) (both-ways P _ _ _ (search) (search)))
+
+  -- It names its own thread, or nobody.
+  visit-names : (k : ℕ) → Names k (visit m b i s .answer) → k ≡ i
+  unfolding visit decided
+  visit-names k =
+      let P : Walked → Type 0 = λ w. Names k (w .answer) → k ≡ i in
+      both-ways P _ _ _ (nobody k) (both-ways P _ _ _ (own-run k i) (both-ways P _ _ _ (own-idle k i) (nobody k)))
+
+-- A reached thread that runs is chosen, and its count goes up by one.
+pub runs-chosen : (m : List Bool) (i : ℕ) (s : State) → 0 < progress s i .rest → progress s i .finished ≡ false
+    → visit m 1 i s ≡ walked (Ran i) (count (pay s i) i)
+unfolding visit decided heard runs pick
+runs-chosen m i s h f = rw (ne-eqb (progress s i .rest) 0 (λ e. omega arith), f)
+
+pub runs-counted : (i : ℕ) (s : State) → i < length (s .threads) → progress (count (pay s i) i) i .ran ≡ progress s i .ran + 1
+unfolding count pay
+runs-counted i s l =
+    let p : Progress = paid (progress s i) in
+    let e : progress (put s i p) i ≡ p = put-same s i p l in
+    ap (λ (q : Progress). q .ran) (put-same (put s i p) i _ (rw (length-set (s .threads) i p) l)) ∙ ap (λ (q : Progress). q .ran + 1) e
+
+module _ (t : Table) (m : List Bool) (bs : List ℕ) where
+  -- The thread that a walk down a falling list names has a priority below p, ..
+  walk-named : (i p : ℕ) (is : List ℕ) (s : State) → Falling-from t p is → Names i (walk m bs is s .answer) → thread t i .priority < p
+  unfolding walk
+  walk-named i p [] s f n = nobody i n
+  walk-named i p (j ∷ js) s f n =
+      let P : Walked → Type 0 = λ w. Names i (w .answer) → thread t i .priority < p in
+      both-ways P _ _ _ (λ v. let e : i ≡ j = visit-names m _ j s i v in rw e (f .0))
+      (λ w. omega (arith, walk-named i _ js _ (f .1) w, f .0))
+      n
+
+  -- .. and threads below it are left as they were.
+  walk-below : (i k p : ℕ) (is : List ℕ) (s : State) → Falling-from t p is → Names i (walk m bs is s .answer)
+      → thread t k .priority < thread t i .priority → progress (walk m bs is s .state) k ≡ progress s k
+  unfolding walk
+  walk-below i k p [] s f n l = nobody i n
+  walk-below i k p (j ∷ js) s f n l =
+      let P : Walked → Type 0 = λ w. Names i (w .answer) → progress (w .state) k ≡ progress s k in
+      both-ways P _ _ _
+      (λ v. let e : i ≡ j = visit-names m _ j s i v in visit-others m _ j s k (apart t k j (rw e at l)))
+      (λ w. walk-below i k _ js _ (f .1) w l ∙ visit-others m _ j s k (apart t k j (lt-trans l (walk-named i _ js _ (f .1) w))))
+      n
+
+-- Threads below the chosen one pay nothing, and their bytes are not heard: they are as the release left them.
+pub below-chosen : (t : Table) (bs : List ℕ) (s : State) (i k : ℕ) → Names i (step t bs s .answer) → thread t k .priority < thread t i .priority
+    → progress (step t bs s .state) k ≡ progress (release t (t .count) s) k
+unfolding step advance ticked tick
+below-chosen t bs s i k n l = walk-below t (marks-of t) bs i k 256 (order t) _ (order-falls-from t) n l
+
+-- A thread with a rest is reached.
+reached : (m : List Bool) (b i : ℕ) (s : State) → 0 < progress s i .rest → visit m b i s ≡ decided m b i (heard b i s)
+unfolding visit pick
+reached m b i s h = rw (ne-eqb (progress s i .rest) 0 (λ e. omega arith))
+
+-- One that runs is chosen: its byte is 1, and hearing that changes nothing.
+running : (m : List Bool) (b i : ℕ) (s : State) → 0 < progress s i .rest → runs b (progress s i) ≡ true → chosen (visit m b i s .answer) ≡ true
+unfolding decided heard runs pick
+running m b i s h r =
+    let q = and-both (eqb b 1) (not (progress s i .finished)) r in
+    let one : b ≡ 1 = eqb-true b 1 (q .0) in
+    rw (reached m b i s h, one, q .1)
+
+-- A visit that chooses nobody found no rest, or a thread that neither runs nor is marked.
+passed-over : (m : List Bool) (b i : ℕ) (s : State) → chosen (visit m b i s .answer) ≡ false → 0 < progress s i .rest
+    → (getD m i false ≡ false) × (runs b (progress s i) ≡ false)
+passed-over m b i s e h = (
+  fails _ (λ k. refuted (rw (reached m b i s h) (marked-ends m b i (heard b i s) k)) e),
+  fails _ (λ k. refuted (running m b i s h k) e),
+)
+
+module _ (t : Table) (m : List Bool) (bs : List ℕ) where
+  -- A thread that stands in a falling list has a priority below p.
+  stands-lower : (i p : ℕ) (is : List ℕ) → Falling-from t p is → Stands i is → thread t i .priority < p
+  stands-lower i p [] f h = absurd h
+  stands-lower i p (j ∷ js) f h =
+      ⊎-elim (λ (e : i ≡ j). rw e (f .0)) (λ (q : Stands i js). omega (arith, stands-lower i _ js (f .1) q, f .0)) h
+
+  walk-idle : (i p : ℕ) (is : List ℕ) (s : State) → Falling-from t p is → walk m bs is s .answer ≡ Idle → Stands i is → 0 < progress s i .rest
+      → (getD m i false ≡ false) × (runs (getD bs i 0) (progress s i) ≡ false)
+  walk-idle i p [] s f e h r = absurd h
+  walk-idle i p (j ∷ js) s f e h r =
+      by-test (chosen (visit m (getD bs j 0) j s .answer))
+      (λ c.
+      let q : visit m (getD bs j 0) j s .answer ≡ Idle = ap (λ (w : Walked). w .answer) (sym (walk-stop m bs j js s c)) ∙ e in
+      absurd (true≢false (sym c ∙ ap chosen q)))
+      (λ c. ⊎-elim
+      (λ (q : i ≡ j). rw q (passed-over m _ j s c (rw q at r)))
+      (λ (q : Stands i js).
+      let k : progress (visit m (getD bs j 0) j s .state) i ≡ progress s i = visit-others m _ j s i (apart t i j (stands-lower i _ js (f .1) q)) in
+      let w = walk-idle i _ js _ (f .1) (ap (λ (w : Walked). w .answer) (sym (walk-on m bs j js s c)) ∙ e) q (rw k r) in
+      rw k at w)
+      h)
+
+-- If nobody is chosen, no thread with a rest runs or is marked: the processor idles for want of work only.
+pub idle-only : (t : Table) → Legal t → (bs : List ℕ) (s : State) → step t bs s .answer ≡ Idle → (i : ℕ) → i < t .count
+    → 0 < progress (release t (t .count) s) i .rest → (marked t i ≡ false) × (runs (getD bs i 0) (progress (release t (t .count) s) i) ≡ false)
+unfolding step advance ticked
+idle-only t g bs s e i l h =
+    let w = walk-idle t (marks-of t) bs i 256 (order t) _ (order-falls-from t) e (order-whole t g i l) h in
+    (sym (marks-at t i l) ∙ w .0, w .1)

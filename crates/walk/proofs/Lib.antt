@@ -1,0 +1,6 @@
+pub mod WalkLaws
+pub mod StepLaws
+pub mod HeardLaws
+pub mod PaidLaws
+pub mod ReachedLaws
+pub mod ChoiceLaws

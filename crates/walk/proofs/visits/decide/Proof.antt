@@ -1,0 +1,58 @@
+use Rattle.walk.proofs.WalkLaws.{kept-counts, pay-each}
+use Rattle.walk.specs.Walk.{decided}
+use Rattle.state.specs.Methods.{pay}
+use Rattle.basis.specs.Tests.{pick}
+use mathlib.Core.Path.{sym, _∙_}
+use native.Mathlib.Omega.{arith}
+use borrow.Author.Needs.{needs}
+use Rattle.walk.proofs.visits.decide.Statement.{statement}
+use Rattle.walk.proofs.visits.decide.Tie as tie
+use Rattle.walk.proofs.visits.decide.Reads as reads
+use Rattle.walk.proofs.visits.decide.Lts as lts
+use Rattle.state.proofs.State.count.Reads as count-reads
+use Rattle.state.proofs.State.pay.Reads as pay-reads
+use Rattle.walk.proofs.visits.runs.Reads as runs-reads
+
+mul-p : tie.Need-mul-p
+mul-p c = search needs
+
+element-copy-out-p : tie.Need-element-copy-out-p
+element-copy-out-p c = search needs
+
+pay-requires : tie.Need-pay-requires
+pay-requires c κs = search needs
+
+runs-requires : tie.Need-runs-requires
+runs-requires c κs = search needs
+
+count-requires : tie.Need-count-requires
+count-requires c κs = let s = c .before .before .before .before in let h = pay-each 32 _ (kept-counts 32 999999999) (s .args .i) _ (s .pre .0) (s .pre .2) in (s .pre .0, rw (c .before .before .pay .ensures) (omega (arith, h .at (s .args .i))))
+
+returns : tie.Need-returns
+unfolding pick decided pay
+returns c = simp (sym (c .before .before .runs .ensures) ∙ c .before .if1 .taken, c .before .before .before .pay .ensures, c .count .ensures)
+
+array-read-if2 : tie.Need-array-read-if2
+array-read-if2 c = search needs
+
+returns-2 : tie.Need-returns-2
+unfolding pick decided pay
+returns-2 c = simp (sym (c .before .before .runs .ensures) ∙ c .before .if1 .left, c .if2 .taken, c .before .before .before .pay .ensures)
+
+returns-3 : tie.Need-returns-3
+unfolding pick decided pay
+returns-3 c = simp (sym (c .before .before .runs .ensures) ∙ c .before .if1 .left, c .if2 .left, c .before .before .before .pay .ensures)
+
+pub decide-spec : {M : Type 1} → statement M
+decide-spec =
+    tie.close
+    (tie.spec
+    mul-p
+    element-copy-out-p
+    pay-requires
+    runs-requires
+    count-requires
+    returns
+    array-read-if2
+    returns-2
+    returns-3)

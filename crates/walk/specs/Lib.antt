@@ -1,0 +1,4 @@
+pub mod Walk
+pub mod Step
+pub mod Heard
+pub mod Paid

@@ -1,0 +1,38 @@
+-- One step at clock t, in the five parts of document 01: release, the walk (2 to 4), and the clock.
+use Prim.Native.Nat.{ℕ, _<_}
+use mathlib.Core.Path.{_≡_}
+use mathlib.Core.List.{List}
+use mathlib.Core.Bool.{Bool}
+use Rattle.table.specs.Mark.{marks-of}
+use Rattle.table.specs.declared.Table.{Table}
+use Rattle.state.specs.State.{progress}
+use Rattle.state.specs.Release.{release}
+use Rattle.state.specs.Methods.{tick}
+use Rattle.state.specs.declared.State.{State}
+use Rattle.order.specs.Order.{order}
+use Rattle.walk.specs.Walk.{walked, walk}
+use Rattle.walk.specs.declared.Answer.{Answer}
+use Rattle.walk.specs.declared.Answer.the-variants.{Ran, IdleFor}
+use Rattle.walk.specs.declared.Walked.{Walked}
+
+-- 5. The clock goes up by one.
+unfoldable pub ticked : Walked → Walked
+ticked w = walked (w .answer) (tick (w .state))
+
+-- A step whose walk goes over the threads is, with the marks m.
+unfoldable pub advance : Table → List Bool → List ℕ → List ℕ → State → Walked
+advance t m is bs s = ticked (walk m bs is (release t (t .count) s))
+
+-- One step: the walk goes from the highest priority down with the table's marks, step bytes bs in table order.
+unfoldable pub step : Table → List ℕ → State → Walked
+step t bs s = advance t (marks-of t) (order t) bs s
+
+-- The thread that an answer names has a rest above 0.
+pub record Rested (a : Answer) (s : State) : Type 0 where
+  pub ran : (i : ℕ) → a ≡ Ran i → 0 < progress s i .rest
+  pub idled : (i : ℕ) → a ≡ IdleFor i → 0 < progress s i .rest
+
+-- An answer names thread i: it ran, or the processor idles for it.
+pub data Names (i : ℕ) : Answer → Type 0 where
+  ran : Names i (Ran i)
+  idles : Names i (IdleFor i)
