@@ -16,7 +16,7 @@ use Rattle.basis.proofs.ListLaws.{front, front-suc, front-all, front-getD, unus
 use Rattle.flow.specs.Flow.{row-ok}
 use Rattle.flow.specs.Gap.{first-gap}
 use Rattle.flow.proofs.FlowLaws.{row-small}
-use Rattle.table.specs.Threads.{field-count, none, thread, fields}
+use Rattle.table.specs.Threads.{field-count, none, thread, fields, thread-of}
 use Rattle.table.specs.Ranges.{range, within, domain-counts, thread-counts, field-range}
 use Rattle.table.specs.Legal.{field-ok, thread-ok, taken, Legal, Legal-thread}
 use Rattle.table.specs.declared.Range.{Range}
@@ -111,6 +111,13 @@ module _ (s : List ℕ) where
       (field-small d th hd ok k l) (sp .1) (rw same (every-at (field-ok d vs) field-count k ok l)) (unclaimed ths i th t k) in
       (record { start = _; value = _; is = e }, rw (e, ih .1) (front-suc vs (replicate field-count 0) k 0 (omega arith) (omega arith)))
 
+  thread-complete : (d : ℕ) (ths : List Thread) (i : ℕ) (c : Cursor) (th : Thread) → d ≤ 16 → thread-ok d th ≡ true → taken ths i (th .priority) ≡ false →
+      (p q : ℕ) → Stood c p → Reads s p q (encode-all (fields th)) →
+      (Stood (fields-from s d ths i c field-count .cursor) q) × (thread-of (fields-from s d ths i c field-count .fields) ≡ th)
+  thread-complete d ths i c th hd ok t p q st r =
+      let e = fields-complete d ths i c th hd ok t field-count p q (omega arith) st r in
+      (e .0, ap thread-of (e .1))
+
   threads-complete : (d : ℕ) (c : Cursor) (ths : List Thread) → d ≤ 16 → length ths ≡ 32 → (i p q : ℕ) → i ≤ 32 →
       ((j : ℕ) → j < i → thread-ok d (getD ths j none) ≡ true) → ((j : ℕ) → j < i → taken ths j (getD ths j none .priority) ≡ false) →
       Stood c p → Reads s p q (encode-all (thread-numbers ths i)) →
@@ -126,7 +133,7 @@ module _ (s : List ℕ) where
       let ih = threads-complete d c ths hd hl i p (p + length (encode-all (thread-numbers ths i))) (omega arith) (λ j o. ok j (omega arith)) (λ j o. free-at j (omega arith)) k (sp .0) in
       let t : taken (threads-from s d c i .threads) i (th .priority) ≡ false
       = rw (ih .1) (taken-same (front ths (replicate 32 none) i) ths i (th .priority) (λ j o. front-getD ths _ i j none o (omega arith)) ∙ free-at i (omega arith)) in
-      let e = fields-complete d (threads-from s d c i .threads) i (threads-from s d c i .cursor) th hd (ok i (omega arith)) t field-count _ q (omega arith) (ih .0) (sp .1) in
+      let e = thread-complete d (threads-from s d c i .threads) i (threads-from s d c i .cursor) th hd (ok i (omega arith)) t _ q (ih .0) (sp .1) in
       (e .0, rw (e .1, ih .1) (front-suc ths (replicate 32 none) i none (omega arith) (omega arith)))
 
   ended-complete : (d n q : ℕ) (rows : List ℕ) (r : ThreadsRead) → Stood (r .cursor) q → length s ≤ q →
