@@ -28,7 +28,7 @@ use Rattle.reader.specs.declared.ThreadsRead.{ThreadsRead}
 use Rattle.numeral.specs.Number.{encode-all}
 use Rattle.reader.specs.Reader.{ranged, row-from, put-row, rows-from, free, field-from, put-field, fields-from, put-thread, threads-from, ended, whole-or-gap, after-rows, version-from, domains-from, count-from, reading}
 use Rattle.codec.specs.Judging.{fault, row-gap, wanted, Judgment}
-use Rattle.numeral.proofs.NumberLaws.{Bytes}
+use Rattle.numeral.specs.NumberRules.{Bytes}
 use Rattle.codec.proofs.BeforeLaws.{before-nil, before-counts}
 use Rattle.codec.proofs.JudgedSteps.{Good, Stopped, Tested, gap-objection, stopped-judged, stopped-row, stopped-ranged, stopped-rows, stopped-field, stopped-fields, objected-by, test-step, one-step, ended-judged, stopped-ended, stopped-after, passed}
 use Rattle.codec.proofs.JudgedRules.{version-fault, row-fault, no-row-gap, last-row-gap, wanted-is, wanted-no, Agree, field-fault-is, thread-fault}

@@ -35,7 +35,8 @@ use Rattle.reader.specs.declared.ThreadsRead.{ThreadsRead}
 use Rattle.numeral.specs.Number.{number, number-at, encode, encode-all}
 use Rattle.writer.specs.Format.{row-numbers, thread-numbers, numbers, bytes}
 use Rattle.reader.specs.Reader.{good, took, number-from, judged, ranged, row-from, rows-from, free, field-from, fields-from, threads-from, Read, accepted, refused-at, whole-or-gap, ended, after-rows, version-from, domains-from, count-from, reading}
-use Rattle.numeral.proofs.NumberLaws.{Bytes, Told-why, number-why, encode-all-append, encode-all-last}
+use Rattle.numeral.specs.NumberRules.{Bytes}
+use Rattle.numeral.proofs.NumberLaws.{Told-why, number-why, encode-all-append, encode-all-last}
 use Rattle.numeral.proofs.Runs.{Reads, number-reads, reads-nil, reads-join}
 use Rattle.reader.proofs.ReaderLaws.{ranged-le, length-fields}
 use Rattle.codec.proofs.FormatLaws.{rows-more, threads-more, rows-set, threads-set, taken-same}
