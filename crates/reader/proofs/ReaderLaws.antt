@@ -10,6 +10,7 @@ use native.Mathlib.Omega.{arith}
 use lib.ListN.{length, set, getD, replicate, length-set}
 use lib.Seq.{getD-set-same, getD-set-other}
 use lib.Dec.{eqb, ltb}
+use borrow.Author.Tests.{eqb-false}
 use Rattle.basis.specs.Tests.{pick}
 use Rattle.basis.specs.Told.{Told}
 use Rattle.basis.specs.Search.{Sought, nothing, found}
@@ -27,7 +28,7 @@ use Rattle.reader.specs.declared.ThreadsRead.{ThreadsRead}
 use Rattle.reader.specs.declared.Verdict.{Verdict}
 use Rattle.reader.specs.declared.Verdict.the-variants.{Accepted, Refused, Intransitive}
 use Rattle.reader.specs.declared.Reading.{Reading}
-use Rattle.reader.specs.Reader.{Read, told, read-of, good, number-from, judged, ranged, row-from, put-row, rows-from, free, field-from, put-field, fields-from, put-thread, threads-from, no-table, ended, whole-or-gap, after-rows, version-from, domains-from, count-from, reading}
+use Rattle.reader.specs.Reader.{Read, told, read-of, good, number-from, judged, ranged, row-from, put-row, rows-from, free, field-from, put-field, fields-from, put-thread, threads-from, accepted, no-table, ended, whole-or-gap, after-rows, version-from, domains-from, count-from, reading}
 
 -- One turn of each loop.
 pub rows-next : (s : List ℕ) (d : ℕ) (c : Cursor) (i : ℕ) (k k' : Cursor) (rows : List ℕ) →
@@ -146,6 +147,31 @@ refused-zero s =
 
     threads : ThreadsRead
     threads = threads-from s d (rows .cursor) n
+
+-- A reading that is not refused is accepted.
+abbrev Plain : Read → Type 0
+Plain r = r .told .number ≡ 0 → r ≡ accepted (r .table)
+
+plain-ended : (s : List ℕ) (d n : ℕ) (rows : List ℕ) (t : ThreadsRead) → Plain (ended s d n rows t)
+unfolding ended
+plain-ended s d n rows t =
+    either Plain (eqb (t .cursor .refusal) 0)
+    (λ e. either Plain (ltb (t .cursor .next) (length s)) (λ f h. absurd (omega arith)) (λ f h. refl))
+    (λ e h. absurd (eqb-false (t .cursor .refusal) 0 e h))
+
+plain-gap : (place : ℕ) (g : Sought Triple) (r : Read) → Plain r → Plain (whole-or-gap place g r)
+plain-gap place nothing r z = z
+plain-gap place (found g) r z = λ h. absurd (omega arith)
+
+pub accepted-plain : (s : List ℕ) → reading s .told .number ≡ 0 → reading s ≡ accepted (reading s .table)
+unfolding reading after-rows
+accepted-plain s =
+    let d : ℕ = domains-from s .value in
+    let n : ℕ = count-from s .value in
+    let r : RowsRead = rows-from s d (count-from s) d in
+    either Plain (eqb (r .cursor .refusal) 0)
+    (λ e. plain-gap (r .cursor .start) (first-gap (r .rows) d) _ (plain-ended s d n (r .rows) (threads-from s d (r .cursor) n)))
+    (λ e h. absurd (eqb-false (r .cursor .refusal) 0 e h))
 
 -- A verdict has one reading.
 pub told-injective : (v w : Verdict) → told v ≡ told w → v ≡ w
