@@ -17,10 +17,10 @@ use Rattle.table.specs.Mark.{marked}
 use Rattle.table.specs.declared.Table.{Table}
 use Rattle.table.specs.declared.Thread.{Thread}
 use Rattle.table.proofs.MarkLaws.{mark-sound, mark-complete}
-use Rattle.admission.specs.Demand.{sum, above}
+use Rattle.admission.specs.Demand.{sum, Sum-of, above}
 use Rattle.admission.specs.Prohibition.{stretch, prohibition, prohibiting, Prohibits, marked-above, otherwise, Prohibition-answer, not-legal, no-thread, prohibited}
 use Rattle.admission.proofs.QuotientLaws.{ceil-le}
-use Rattle.admission.proofs.SumLaws.{sum-longer, sum-but-one}
+use Rattle.admission.proofs.SumLaws.{sum-longer, sum-but-one, sum-given, sum-only}
 
 -- What a thread brings, where it is marked and stands above, and where it does not.
 pub stretch-above : (own h : Thread) (m : Bool) → m ≡ true → own .priority < h .priority
@@ -60,11 +60,23 @@ module _ (t : Table) (l h : ℕ) where
   stretch-exactly n = (λ e. subst (λ (k : ℕ). Prohibits t l h k) e stretch-given, λ r. stretch-only r)
 
 module _ (t : Table) (l : ℕ) where
+  time-given : Sum-of (Prohibits t l) (t .count) (prohibition t l)
+  unfolding prohibition
+  time-given = sum-given _ (Prohibits t l) (stretch-exactly t l) (t .count)
+
+  time-only : {time : ℕ} → Sum-of (Prohibits t l) (t .count) time → prohibition t l ≡ time
+  unfolding prohibition
+  time-only r = sum-only _ (Prohibits t l) (stretch-exactly t l) r
+
+  -- the time is the sum of what each thread brings, and nothing else
+  pub prohibition-exactly : (time : ℕ) → (prohibition t l ≡ time) ↔ Sum-of (Prohibits t l) (t .count) time
+  prohibition-exactly time = (λ e. subst (λ (n : ℕ). Sum-of (Prohibits t l) (t .count) n) e time-given, λ r. time-only r)
+
   answer-only : {w : Told} → Prohibition-answer t l w → prohibiting t l ≡ w
   unfolding prohibiting pick
   answer-only (not-legal a) = rw a
   answer-only (no-thread a b) = rw (a, le-ltb _ _ b)
-  answer-only (prohibited a b) = rw (a, lt-ltb _ _ b)
+  answer-only (prohibited a b time r) = rw (a, lt-ltb _ _ b, time-only r)
 
   here : {w : Told} → Prohibition-answer t l w → Prohibition-answer t l (prohibiting t l)
   here r = subst (λ (w : Told). Prohibition-answer t l w) (sym (answer-only r)) r
@@ -72,7 +84,7 @@ module _ (t : Table) (l : ℕ) where
   answer-given : Prohibition-answer t l (prohibiting t l)
   answer-given =
       by-test (legal t)
-      (λ a. by-test (ltb l (t .count)) (λ b. here (prohibited a (ltb-true _ _ b))) (λ b. here (no-thread a (ltb-false _ _ b))))
+      (λ a. by-test (ltb l (t .count)) (λ b. here (prohibited a (ltb-true _ _ b) (prohibition t l) time-given)) (λ b. here (no-thread a (ltb-false _ _ b))))
       (λ a. here (not-legal a))
 
   -- what `prohibition` tells is exactly what the plain rows say

@@ -1,12 +1,12 @@
 -- Laws of a sum over the threads: it grows with its terms and with their number, and is no more than as many times the largest.
 use Prim.Native.Nat.{ℕ, zero, suc, _+_, _*_, _≤_, _<_}
 use mathlib.Core.Path.{_≡_, refl}
-use mathlib.Core.Logic.{⊎-elim}
+use mathlib.Core.Logic.{_↔_, ⊎-elim}
 use native.Mathlib.Decide.{le-ind}
 use native.Mathlib.Nat.{le-refl, eq-or-lt-of-le, suc-mul}
 use native.Mathlib.Numerals.{add-one}
 use native.Mathlib.Omega.{arith}
-use Rattle.admission.specs.Demand.{sum}
+use Rattle.admission.specs.Demand.{sum, Sum-of, of-none, one-more}
 
 -- The step of a loop: one term more.
 pub sum-next : (f : ℕ → ℕ) (n : ℕ) → sum (n + 1) f ≡ sum n f + f n
@@ -48,3 +48,15 @@ sum-but-one f m (suc n) i l z h =
     omega (arith, sum-most f m n (λ j k. h j (omega arith)), y, suc-mul n m))
     (λ (k : i < n). omega (arith, sum-but-one f m n i k z (λ j u. h j (omega arith)), h n (omega arith), suc-mul n m))
     (eq-or-lt-of-le (omega arith))
+
+-- A sum is exactly the sum of what each number brings, where f says exactly what it brings.
+module _ (f : ℕ → ℕ) (brings : ℕ → ℕ → Type 0) (exactly : (i m : ℕ) → (f i ≡ m) ↔ brings i m) where
+  pub sum-given : (n : ℕ) → Sum-of brings n (sum n f)
+  unfolding sum
+  sum-given zero = of-none
+  sum-given (suc n) = one-more n (sum n f) (f n) (sum-given n) (exactly n (f n) .0 refl)
+
+  pub sum-only : {n total : ℕ} → Sum-of brings n total → sum n f ≡ total
+  unfolding sum
+  sum-only of-none = refl
+  sum-only (one-more n total own r b) = rw (sum-only r, exactly n own .1 b)

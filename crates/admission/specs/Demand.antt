@@ -13,6 +13,11 @@ unfoldable pub sum : ℕ → (ℕ → ℕ) → ℕ
 sum zero f = 0
 sum (suc n) f = sum n f + f n
 
+-- The sum of what the numbers below n bring, in plain words: 0 of none, and one more brings its own to those before it.
+pub data Sum-of (brings : ℕ → ℕ → Type 0) : ℕ → ℕ → Type 0 where
+  of-none : Sum-of brings 0 0
+  one-more : (n total own : ℕ) → Sum-of brings n total → brings n own → Sum-of brings (suc n) (total + own)
+
 -- Thread h has a higher priority than own.
 unfoldable pub above : Thread → Thread → Bool
 above own h = ltb (own .priority) (h .priority)

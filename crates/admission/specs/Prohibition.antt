@@ -12,7 +12,7 @@ use Rattle.table.specs.Legal.{legal}
 use Rattle.table.specs.Mark.{marked, Leaks}
 use Rattle.table.specs.declared.Table.{Table}
 use Rattle.table.specs.declared.Thread.{Thread}
-use Rattle.admission.specs.Demand.{sum, above}
+use Rattle.admission.specs.Demand.{sum, Sum-of, above}
 use Rattle.admission.specs.declared.ProhibitionTime.{ProhibitionTime}
 use Rattle.admission.specs.declared.ProhibitionTime.the-variants.{Steps, NotLegal, NoThread}
 
@@ -46,5 +46,6 @@ pub data Prohibition-answer (t : Table) (l : ℕ) : Told → Type 0 where
   not-legal : legal t ≡ false → Prohibition-answer t l (refused 11)
   -- 15: it has no such thread
   no-thread : legal t ≡ true → t .count ≤ l → Prohibition-answer t l (refused 15)
-  -- the sum of what each thread prohibits
-  prohibited : legal t ≡ true → l < t .count → Prohibition-answer t l (answered (prohibition t l ∷ []))
+  -- the time is the sum of what each thread of the table brings
+  prohibited : legal t ≡ true → l < t .count → (time : ℕ) → Sum-of (Prohibits t l) (t .count) time
+      → Prohibition-answer t l (answered (time ∷ []))

@@ -72,3 +72,13 @@ pub fill-next : {A : Type 0} (l : List A) (i n : ℕ) (v a : A) → length l ≡
 fill-next l i n v a e h =
     let q : n - i ≡ suc (n - suc i) = omega arith in
     rw (q, set-at l a (replicate (n - suc i) a) v i e) (sym (append-snoc l v (replicate (n - suc i) a)))
+
+-- What holds of each element of a list, and of the value past its end, holds at every place.
+abbrev pub Each : {A : Type 0} → (A → Type 0) → List A → Type 0
+Each P [] = Unit {0}
+Each P (x ∷ l) = P x × Each P l
+
+pub each-at : {A : Type 0} (P : A → Type 0) (l : List A) (a : A) → Each P l → P a → (k : ℕ) → P (getD l k a)
+each-at P [] a h p k = p
+each-at P (x ∷ l) a h p zero = h .0
+each-at P (x ∷ l) a h p (suc k) = each-at P l a (h .1) p k

@@ -1,14 +1,14 @@
 -- Laws of a search in order: how it grows with a loop, and what it answers.
 use Prim.Native.Nat.{ℕ, zero, suc, _+_, _-_, _≤_, _<_}
 use mathlib.Core.Path.{_≡_, refl, sym, _∙_, ap}
-use mathlib.Core.List.{List, [], _∷_, _++_, append-assoc}
+use mathlib.Core.List.{List, [], _∷_, _++_, append-assoc, append-nil}
 use mathlib.Core.Logic.{⊎-elim}
 use native.Mathlib.Numerals.{add-one}
 use native.Mathlib.Decide.{le-ind}
 use native.Mathlib.Nat.{eq-or-lt-of-le, sub-zero}
 use native.Mathlib.Omega.{arith}
 use lib.ListN.{length, getD, set, replicate, length-append, List·getD-eq-default}
-use lib.Seq.{set-at, getD-at, append-snoc}
+use lib.Seq.{set-at, getD-at, append-snoc, ext-getD}
 use Rattle.basis.specs.Search.{Sought, nothing, found, or-else, first, listed}
 use Rattle.basis.proofs.ListLaws.{padded}
 
@@ -92,3 +92,9 @@ listed-at f (suc n) i rest d h =
 
 pub listed-past : {A : Type 0} (f : ℕ → A) (n m i : ℕ) (z : A) → n ≤ i → getD (listed n f ++ replicate m z) i z ≡ z
 listed-past f n m i z h = padded (listed n f) m i z ∙ List·getD-eq-default (listed n f) z (rw (length-listed n f) h)
+
+-- A list is the list of its elements.
+pub listed-all : {A : Type 0} (l : List A) (a : A) → listed (length l) (λ i. getD l i a) ≡ l
+listed-all l a =
+    ext-getD a (listed (length l) (λ i. getD l i a)) l (length-listed (length l) (λ i. getD l i a))
+    (λ i h. (rw (append-nil (listed (length l) (λ i. getD l i a))) at (listed-at (λ i. getD l i a) (length l) i [] a (rw (length-listed (length l) (λ i. getD l i a)) at h))))

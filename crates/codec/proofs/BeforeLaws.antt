@@ -15,9 +15,10 @@ use Rattle.basis.specs.Told.{Told, answered, refused}
 use Rattle.basis.proofs.TestLaws.{by-test}
 use Rattle.flow.specs.Flow.{row-ok}
 use Rattle.flow.proofs.FlowLaws.{row-small}
-use Rattle.table.specs.Ranges.{within, domain-counts, thread-counts, field-range, field-ranges}
+use Rattle.table.specs.Threads.{field-count}
+use Rattle.table.specs.Ranges.{within, domain-counts, thread-counts, field-range}
 use Rattle.table.specs.declared.Range.{Range}
-use Rattle.table.proofs.RangeLaws.{within-high}
+use Rattle.table.proofs.RangeLaws.{within-high, below-small}
 use Rattle.numeral.specs.declared.Number.the-variants.{Value}
 use Rattle.numeral.specs.Number.{number-at, encode, encode-all}
 use Rattle.codec.specs.Judging.{field-fault, fault, objection, wanted, Before, place}
@@ -73,24 +74,14 @@ record Small (vs : List ℕ) : Type 0 where
   each : (k : ℕ) → getD vs k 0 < 65536
   domains : getD vs 1 0 ≤ 16
 
-below-small : (d : ℕ) (vs : List ℕ) (k : ℕ) → d < 65536 → ((j : ℕ) → getD vs j 0 < 65536) → field-range d vs k .below ≤ 65536
-unfolding field-range field-ranges
-below-small d vs zero h e = omega arith
-below-small d vs (suc zero) h e = omega arith
-below-small d vs (suc (suc zero)) h e = omega arith
-below-small d vs (suc (suc (suc zero))) h e = omega (arith, e 2)
-below-small d vs (suc (suc (suc (suc zero)))) h e = omega (arith, e 2)
-below-small d vs (suc (suc (suc (suc (suc zero))))) h e = omega (arith, e 2)
-below-small d vs (suc (suc (suc (suc (suc (suc zero)))))) h e = omega (arith, e 4)
-below-small d vs (suc (suc (suc (suc (suc (suc (suc k))))))) h e = omega arith
-
 field-small : (d : ℕ) (fs : List ℕ) (v : ℕ) → d < 65536 → ((j : ℕ) → getD fs j 0 < 65536) → field-fault d fs v ≡ 0 → v < 65536
 unfolding field-fault
 field-small d fs v h e f =
-    let i : ℕ = length fs / 7 in
-    let r : Range = field-range d (drop (7 * i) fs) (length fs % 7) in
+    let i : ℕ = length fs / field-count in
+    let r : Range = field-range d (drop (field-count * i) fs) (length fs % field-count) in
     let p = passes (within r v) _ 8 (omega arith) f in
-    let l : r .below ≤ 65536 = below-small d (drop (7 * i) fs) (length fs % 7) h (λ j. rw (getD-drop (7 * i) fs j 0) (e (7 * i + j))) in
+    let small : (j : ℕ) → getD (drop (field-count * i) fs) j 0 < 65536 = λ j. rw (getD-drop (field-count * i) fs j 0) (e (field-count * i + j)) in
+    let l : r .below ≤ 65536 = below-small d (drop (field-count * i) fs) (length fs % field-count) h (small 2) (small 4) in
     omega (arith, within-high r v (p .0))
 
 passed-small : (vs : List ℕ) (v : ℕ) → Small vs → fault vs v ≡ 0 → v < 65536

@@ -16,20 +16,20 @@ use Rattle.basis.proofs.ListLaws.{front, front-suc, front-all, front-getD, unus
 use Rattle.flow.specs.Flow.{row-ok}
 use Rattle.flow.specs.Gap.{first-gap}
 use Rattle.flow.proofs.FlowLaws.{row-small}
-use Rattle.table.specs.Threads.{none, thread, fields}
+use Rattle.table.specs.Threads.{field-count, none, thread, fields, thread-of}
 use Rattle.table.specs.Ranges.{range, within, domain-counts, thread-counts, field-range}
 use Rattle.table.specs.Legal.{field-ok, thread-ok, taken, Legal, Legal-thread}
 use Rattle.table.specs.declared.Range.{Range}
 use Rattle.table.specs.declared.Thread.{Thread}
 use Rattle.table.specs.declared.Table.{Table}
-use Rattle.table.proofs.RangeLaws.{within-low, within-high, within-is, field-range-by, thread-of-test}
+use Rattle.table.proofs.RangeLaws.{within-low, within-high, within-is, field-range-by, below-small, thread-of-test}
 use Rattle.table.proofs.LegalLaws.{Parts, parts-of-legal}
 use Rattle.reader.specs.declared.Cursor.{Cursor}
 use Rattle.reader.specs.declared.RowsRead.{RowsRead}
 use Rattle.reader.specs.declared.ThreadsRead.{ThreadsRead}
 use Rattle.numeral.specs.Number.{number-at, encode, encode-all}
 use Rattle.writer.specs.Format.{row-numbers, thread-numbers, numbers, bytes}
-use Rattle.reader.specs.Reader.{good, number-from, judged, ranged, row-from, rows-from, free, field-from, fields-from, thread-of, threads-from, accepted, ended, after-rows, version-from, domains-from, count-from, reading}
+use Rattle.reader.specs.Reader.{good, number-from, judged, ranged, row-from, rows-from, free, field-from, fields-from, threads-from, accepted, ended, after-rows, version-from, domains-from, count-from, reading}
 use Rattle.numeral.proofs.NumberLaws.{encode-all-append, encode-all-take}
 use Rattle.numeral.proofs.Runs.{Reads, reads-number, reads-split, reads-whole}
 use Rattle.codec.proofs.FormatLaws.{rows-more, threads-more, taken-same}
@@ -41,15 +41,12 @@ record Stood (c : Cursor) (q : ℕ) : Type 0 where
   is : c ≡ good start q value
 
 -- A field of a thread in range is a number of the format.
-field-small : (d : ℕ) (th : Thread) → d ≤ 16 → Legal-thread d th → (k : ℕ) → getD (fields th) k 0 < 65536
-field-small d th h g zero = omega (arith, g .domain-high)
-field-small d th h g (suc zero) = omega (arith, g .priority-high)
-field-small d th h g (suc (suc zero)) = omega (arith, g .period-high)
-field-small d th h g (suc (suc (suc zero))) = omega (arith, g .offset-high, g .period-high)
-field-small d th h g (suc (suc (suc (suc zero)))) = omega (arith, g .budget-high, g .period-high)
-field-small d th h g (suc (suc (suc (suc (suc zero))))) = omega (arith, g .deadline-high, g .period-high)
-field-small d th h g (suc (suc (suc (suc (suc (suc zero)))))) = omega (arith, g .blocking-high, g .budget-high, g .period-high)
-field-small d th h g (suc (suc (suc (suc (suc (suc (suc k))))))) = omega arith
+field-small : (d : ℕ) (th : Thread) → d ≤ 16 → thread-ok d th ≡ true → (k : ℕ) → k < field-count → getD (fields th) k 0 < 65536
+unfolding thread-ok field-ok
+field-small d th h ok k l =
+    let g : Legal-thread d th = thread-of-test d th ok in
+    let b = below-small d (fields th) k (omega arith) (omega (arith, g .period-high)) (omega (arith, g .budget-high, g .period-high)) in
+    omega (arith, b, within-high (field-range d (fields th) k) _ (every-at (field-ok d (fields th)) field-count k ok l))
 
 -- Only the priority can be taken, and it is not.
 unclaimed : (ths : List Thread) (i : ℕ) (th : Thread) → taken ths i (th .priority) ≡ false → (k : ℕ) → free ths i k (getD (fields th) k 0) ≡ true
@@ -95,8 +92,8 @@ module _ (s : List ℕ) where
       (record { start = _; value = _; is = e }, rw (e, ih .1) (front-suc rows (replicate 16 0) i 0 (omega arith) (omega arith)))
 
   fields-complete : (d : ℕ) (ths : List Thread) (i : ℕ) (c : Cursor) (th : Thread) → d ≤ 16 → thread-ok d th ≡ true → taken ths i (th .priority) ≡ false →
-      (k p q : ℕ) → k ≤ 7 → Stood c p → Reads s p q (encode-all (take k (fields th))) →
-      (Stood (fields-from s d ths i c k .cursor) q) × (fields-from s d ths i c k .fields ≡ front (fields th) (replicate 7 0) k)
+      (k p q : ℕ) → k ≤ field-count → Stood c p → Reads s p q (encode-all (take k (fields th))) →
+      (Stood (fields-from s d ths i c k .cursor) q) × (fields-from s d ths i c k .fields ≡ front (fields th) (replicate field-count 0) k)
   unfolding fields-from encode-all thread-ok field-ok
   fields-complete d ths i c th hd ok t zero p q l k r =
       let e : q ≡ p = omega (arith, r .ends) in
@@ -108,11 +105,18 @@ module _ (s : List ℕ) where
       let sp = reads-split (encode-all (take k vs)) (encode v) r' in
       let ih = fields-complete d ths i c th hd ok t k p (p + length (encode-all (take k vs))) (omega arith) st (sp .0) in
       let same : field-range d (fields-from s d ths i c k .fields) k ≡ field-range d vs k
-      = rw (ih .1) (field-range-by d (front vs (replicate 7 0) k) vs k (λ j o. front-getD vs (replicate 7 0) k j 0 o (omega arith))) in
+      = rw (ih .1) (field-range-by d (front vs (replicate field-count 0) k) vs k (λ j o. front-getD vs (replicate field-count 0) k j 0 o (omega arith))) in
       let e : field-from s d ths i (fields-from s d ths i c k .fields) k (fields-from s d ths i c k .cursor) ≡ good (p + length (encode-all (take k vs))) q v
       = field-complete d ths i (fields-from s d ths i c k .fields) k (fields-from s d ths i c k .cursor) _ _ _ v q (ih .0 .is)
-      (field-small d th hd (thread-of-test d th ok) k) (sp .1) (rw same (every-at (field-ok d vs) 7 k ok l)) (unclaimed ths i th t k) in
-      (record { start = _; value = _; is = e }, rw (e, ih .1) (front-suc vs (replicate 7 0) k 0 (omega arith) (omega arith)))
+      (field-small d th hd ok k l) (sp .1) (rw same (every-at (field-ok d vs) field-count k ok l)) (unclaimed ths i th t k) in
+      (record { start = _; value = _; is = e }, rw (e, ih .1) (front-suc vs (replicate field-count 0) k 0 (omega arith) (omega arith)))
+
+  thread-complete : (d : ℕ) (ths : List Thread) (i : ℕ) (c : Cursor) (th : Thread) → d ≤ 16 → thread-ok d th ≡ true → taken ths i (th .priority) ≡ false →
+      (p q : ℕ) → Stood c p → Reads s p q (encode-all (fields th)) →
+      (Stood (fields-from s d ths i c field-count .cursor) q) × (thread-of (fields-from s d ths i c field-count .fields) ≡ th)
+  thread-complete d ths i c th hd ok t p q st r =
+      let e = fields-complete d ths i c th hd ok t field-count p q (omega arith) st r in
+      (e .0, ap thread-of (e .1))
 
   threads-complete : (d : ℕ) (c : Cursor) (ths : List Thread) → d ≤ 16 → length ths ≡ 32 → (i p q : ℕ) → i ≤ 32 →
       ((j : ℕ) → j < i → thread-ok d (getD ths j none) ≡ true) → ((j : ℕ) → j < i → taken ths j (getD ths j none .priority) ≡ false) →
@@ -129,7 +133,7 @@ module _ (s : List ℕ) where
       let ih = threads-complete d c ths hd hl i p (p + length (encode-all (thread-numbers ths i))) (omega arith) (λ j o. ok j (omega arith)) (λ j o. free-at j (omega arith)) k (sp .0) in
       let t : taken (threads-from s d c i .threads) i (th .priority) ≡ false
       = rw (ih .1) (taken-same (front ths (replicate 32 none) i) ths i (th .priority) (λ j o. front-getD ths _ i j none o (omega arith)) ∙ free-at i (omega arith)) in
-      let e = fields-complete d (threads-from s d c i .threads) i (threads-from s d c i .cursor) th hd (ok i (omega arith)) t 7 _ q (omega arith) (ih .0) (sp .1) in
+      let e = thread-complete d (threads-from s d c i .threads) i (threads-from s d c i .cursor) th hd (ok i (omega arith)) t _ q (ih .0) (sp .1) in
       (e .0, rw (e .1, ih .1) (front-suc ths (replicate 32 none) i none (omega arith) (omega arith)))
 
   ended-complete : (d n q : ℕ) (rows : List ℕ) (r : ThreadsRead) → Stood (r .cursor) q → length s ≤ q →

@@ -1,17 +1,16 @@
 -- Laws of a table's numbers: they grow by one row and by one thread, and do not change with a store behind them.
 use Prim.Native.Nat.{ℕ, zero, suc, _+_, _≤_, _<_}
-use mathlib.Core.Path.{_≡_, refl, sym, _∙_, ap}
+use mathlib.Core.Path.{_≡_, refl, ap}
 use mathlib.Core.List.{List, [], _∷_, _++_}
 use native.Mathlib.Omega.{arith}
 use lib.ListN.{length, getD, set}
-use lib.Seq.{getD-set-other, ext-getD}
+use lib.Seq.{getD-set-other}
 use lib.Dec.{eqb}
 use Rattle.basis.specs.Search.{listed}
 use Rattle.basis.proofs.TestLaws.{some-same}
 use Rattle.table.specs.Threads.{none, fields}
 use Rattle.table.specs.Legal.{taken}
 use Rattle.table.specs.declared.Thread.{Thread}
-use Rattle.reader.specs.Reader.{thread-of}
 use Rattle.numeral.specs.Number.{encode, encode-all}
 use Rattle.writer.specs.Format.{row-numbers, thread-numbers}
 use Rattle.numeral.proofs.NumberLaws.{encode-all-append, encode-all-last}
@@ -39,17 +38,3 @@ threads-set ths (suc i) j v h = rw (threads-set ths i j v (omega arith), getD-se
 pub taken-same : (a b : List Thread) (i p : ℕ) → ((j : ℕ) → j < i → getD a j none ≡ getD b j none) → taken a i p ≡ taken b i p
 unfolding taken
 taken-same a b i p h = some-same _ _ i (λ j l. ap (λ (th : Thread). eqb (th .priority) p) (h j l))
-
--- Seven fields make a thread that has them.
-pub fields-back : (vs : List ℕ) → length vs ≡ 7 → fields (thread-of vs) ≡ vs
-fields-back vs e = ext-getD 0 (fields (thread-of vs)) vs (sym e) each
-  where
-    each : (i : ℕ) → i < 7 → getD (fields (thread-of vs)) i 0 ≡ getD vs i 0
-    each zero h = refl
-    each (suc zero) h = refl
-    each (suc (suc zero)) h = refl
-    each (suc (suc (suc zero))) h = refl
-    each (suc (suc (suc (suc zero)))) h = refl
-    each (suc (suc (suc (suc (suc zero))))) h = refl
-    each (suc (suc (suc (suc (suc (suc zero)))))) h = refl
-    each (suc (suc (suc (suc (suc (suc (suc i))))))) h = absurd (omega arith)

@@ -14,7 +14,7 @@ use Rattle.basis.proofs.TestLaws.{by-test, fails, some-same}
 use Rattle.basis.proofs.ListLaws.{padded}
 use Rattle.flow.specs.Flow.{row-ok}
 use Rattle.flow.specs.Gap.{first-gap, gap-told}
-use Rattle.table.specs.Threads.{none}
+use Rattle.table.specs.Threads.{field-count, none}
 use Rattle.table.specs.Ranges.{range, within, field-range}
 use Rattle.table.specs.Legal.{taken}
 use Rattle.table.specs.declared.Thread.{Thread}
@@ -43,13 +43,13 @@ pub last-row-gap : (x d n : ℕ) (rs : List ℕ) (v : ℕ) → length rs + 1 ≡
 unfolding row-gap pick
 last-row-gap x d n rs v h = rw (eq-eqb (length rs + 1) d h)
 
-pub wanted-is : (x d n : ℕ) (vs : List ℕ) → length vs < d + 7 * n → wanted (x ∷ d ∷ n ∷ vs) ≡ true
+pub wanted-is : (x d n : ℕ) (vs : List ℕ) → length vs < d + field-count * n → wanted (x ∷ d ∷ n ∷ vs) ≡ true
 unfolding wanted
-wanted-is x d n vs h = lt-ltb (length vs) (d + 7 * n) h
+wanted-is x d n vs h = lt-ltb (length vs) (d + field-count * n) h
 
-pub wanted-no : (x d n : ℕ) (vs : List ℕ) → d + 7 * n ≤ length vs → wanted (x ∷ d ∷ n ∷ vs) ≡ false
+pub wanted-no : (x d n : ℕ) (vs : List ℕ) → d + field-count * n ≤ length vs → wanted (x ∷ d ∷ n ∷ vs) ≡ false
 unfolding wanted
-wanted-no x d n vs h = le-ltb (length vs) (d + 7 * n) h
+wanted-no x d n vs h = le-ltb (length vs) (d + field-count * n) h
 
 -- Refused with 9 where taken, or passed where free.
 swapped : (a t : Bool) → _≡_ {A = ℕ} (pick (and a t) 9 0) (pick (or (not a) (not t)) 0 9)
@@ -60,25 +60,25 @@ swapped false t = refl
 
 -- The threads ths have the priorities that stand among the fields fs.
 pub record Agree (ths : List Thread) (i : ℕ) (fs : List ℕ) : Type 0 where
-  pub long : length fs ≡ 7 * i
-  pub priorities : (j : ℕ) → j < i → getD ths j none .priority ≡ getD fs (7 * j + 1) 0
+  pub long : length fs ≡ field-count * i
+  pub priorities : (j : ℕ) → j < i → getD ths j none .priority ≡ getD fs (field-count * j + 1) 0
 
 taken-same : (ths : List Thread) (i : ℕ) (fs gs : List ℕ) (v : ℕ) → Agree ths i fs
-    → some i (λ j. eqb (getD (fs ++ gs) (7 * j + 1) 0) v) ≡ taken ths i v
+    → some i (λ j. eqb (getD (fs ++ gs) (field-count * j + 1) 0) v) ≡ taken ths i v
 unfolding taken
 taken-same ths i fs gs v a =
-    some-same _ _ i (λ j h. rw (List·getD-append fs gs 0 (7 * j + 1) (omega (arith, a .long)), a .priorities j h))
+    some-same _ _ i (λ j h. rw (List·getD-append fs gs 0 (field-count * j + 1) (omega (arith, a .long)), a .priorities j h))
 
 -- The rules of a thread's fields: the fields fs of the threads before it and gs of its own so far stand before them.
-pub field-fault-is : (d : ℕ) (ths : List Thread) (i k : ℕ) (fs gs vs : List ℕ) (v : ℕ) → Agree ths i fs → length gs ≡ k → k < 7
-    → vs ≡ gs ++ replicate (7 - k) 0 → field-fault d (fs ++ gs) v ≡ pick (within (field-range d vs k) v) (pick (free ths i k v) 0 9) 8
+pub field-fault-is : (d : ℕ) (ths : List Thread) (i k : ℕ) (fs gs vs : List ℕ) (v : ℕ) → Agree ths i fs → length gs ≡ k → k < field-count
+    → vs ≡ gs ++ replicate (field-count - k) 0 → field-fault d (fs ++ gs) v ≡ pick (within (field-range d vs k) v) (pick (free ths i k v) 0 9) 8
 unfolding field-fault free
 field-fault-is d ths i k fs gs vs v a e h q =
-    let l : length (fs ++ gs) ≡ 7 * i + k = length-append fs gs ∙ rw (a .long, e) in
-    let li : length (fs ++ gs) / 7 ≡ i = omega arith in
-    let lk : length (fs ++ gs) % 7 ≡ k = omega arith in
-    let r : field-range d gs k ≡ field-range d vs k = field-range-by d gs vs k (λ j m. rw q (sym (padded gs (7 - k) j 0))) in
-    rw (li, lk, drop-at fs gs (7 * i) (a .long), r, taken-same ths i fs gs v a, swapped (eqb k 1) (taken ths i v))
+    let l : length (fs ++ gs) ≡ field-count * i + k = length-append fs gs ∙ rw (a .long, e) in
+    let li : length (fs ++ gs) / field-count ≡ i = omega arith in
+    let lk : length (fs ++ gs) % field-count ≡ k = omega arith in
+    let r : field-range d gs k ≡ field-range d vs k = field-range-by d gs vs k (λ j m. rw q (sym (padded gs (field-count - k) j 0))) in
+    rw (li, lk, drop-at fs gs (field-count * i) (a .long), r, taken-same ths i fs gs v a, swapped (eqb k 1) (taken ths i v))
 
 pub thread-fault : (x d n : ℕ) (rs fs : List ℕ) (v : ℕ) → length rs ≡ d → fault (x ∷ d ∷ n ∷ (rs ++ fs)) v ≡ field-fault d fs v
 unfolding fault pick

@@ -16,7 +16,7 @@ use Rattle.basis.proofs.ListLaws.{padded, fill-next}
 use Rattle.flow.specs.Flow.{row-ok}
 use Rattle.flow.specs.Gap.{Triple, first-gap, gap-told}
 use Rattle.flow.proofs.GapLaws.{gap-same}
-use Rattle.table.specs.Threads.{none}
+use Rattle.table.specs.Threads.{field-count, thread-of, none}
 use Rattle.table.specs.Ranges.{range, within, domain-counts, thread-counts, field-range}
 use Rattle.table.specs.declared.Range.{Range}
 use Rattle.table.specs.declared.Thread.{Thread}
@@ -26,9 +26,9 @@ use Rattle.reader.specs.declared.RowsRead.{RowsRead}
 use Rattle.reader.specs.declared.FieldsRead.{FieldsRead}
 use Rattle.reader.specs.declared.ThreadsRead.{ThreadsRead}
 use Rattle.numeral.specs.Number.{encode-all}
-use Rattle.reader.specs.Reader.{ranged, row-from, put-row, rows-from, free, field-from, put-field, fields-from, thread-of, put-thread, threads-from, ended, whole-or-gap, after-rows, version-from, domains-from, count-from, reading}
+use Rattle.reader.specs.Reader.{ranged, row-from, put-row, rows-from, free, field-from, put-field, fields-from, put-thread, threads-from, ended, whole-or-gap, after-rows, version-from, domains-from, count-from, reading}
 use Rattle.codec.specs.Judging.{fault, row-gap, wanted, Judgment}
-use Rattle.numeral.proofs.NumberLaws.{Bytes}
+use Rattle.numeral.specs.NumberRules.{Bytes}
 use Rattle.codec.proofs.BeforeLaws.{before-nil, before-counts}
 use Rattle.codec.proofs.JudgedSteps.{Good, Stopped, Tested, gap-objection, stopped-judged, stopped-row, stopped-ranged, stopped-rows, stopped-field, stopped-fields, objected-by, test-step, one-step, ended-judged, stopped-ended, stopped-after, passed}
 use Rattle.codec.proofs.JudgedRules.{version-fault, row-fault, no-row-gap, last-row-gap, wanted-is, wanted-no, Agree, field-fault-is, thread-fault}
@@ -45,7 +45,7 @@ record Fields-good (s : List ℕ) (x d n : ℕ) (rs fs : List ℕ) (k : ℕ) (f 
   read : List ℕ
   good : Good s (x ∷ d ∷ n ∷ (rs ++ (fs ++ read))) (f .cursor)
   long : length read ≡ k
-  filled : f .fields ≡ read ++ replicate (7 - k) 0
+  filled : f .fields ≡ read ++ replicate (field-count - k) 0
 
 -- The threads so far: i were read, and their priorities stand in the array.
 record Threads-good (s : List ℕ) (x d n : ℕ) (rs : List ℕ) (i : ℕ) (t : ThreadsRead) : Type 0 where
@@ -90,11 +90,11 @@ module _ (s : List ℕ) (hs : Bytes s) where
 
   module _ (x d n : ℕ) (rs : List ℕ) (hr : length rs ≡ d) where
     module _ (ths : List Thread) (i : ℕ) (fs : List ℕ) (hi : i < n) (a : Agree ths i fs) where
-      fields-length : (gs : List ℕ) (k : ℕ) → length gs ≡ k → length (rs ++ (fs ++ gs)) ≡ d + (7 * i + k)
+      fields-length : (gs : List ℕ) (k : ℕ) → length gs ≡ k → length (rs ++ (fs ++ gs)) ≡ d + (field-count * i + k)
       fields-length gs k e = length-append rs (fs ++ gs) ∙ rw (length-append fs gs, hr, a .long, e)
 
       -- One more field of thread i: its range, then whether it is taken.
-      field-step : (k : ℕ) (f : FieldsRead) → k < 7 → (b : Fields-good s x d n rs fs k f)
+      field-step : (k : ℕ) (f : FieldsRead) → k < field-count → (b : Fields-good s x d n rs fs k f)
           → (Tested s (x ∷ d ∷ n ∷ (rs ++ (fs ++ b .read))) (λ v. 0) (field-from s d ths i (f .fields) k (f .cursor)))
           ⊎ (Stopped s (field-from s d ths i (f .fields) k (f .cursor)))
       unfolding field-from ranged
@@ -104,17 +104,17 @@ module _ (s : List ℕ) (hs : Bytes s) where
           (λ v. thread-fault x d n rs (fs ++ b .read) v hr ∙ field-fault-is d ths i k fs (b .read) (f .fields) v a (b .long) h (b .filled))
           (b .good) (wanted-is x d n (rs ++ (fs ++ b .read)) (omega (arith, fields-length (b .read) k (b .long)))))
 
-      field-next : (k : ℕ) (f : FieldsRead) (e : Cursor) → k < 7 → (b : Fields-good s x d n rs fs k f)
+      field-next : (k : ℕ) (f : FieldsRead) (e : Cursor) → k < field-count → (b : Fields-good s x d n rs fs k f)
           → Tested s (x ∷ d ∷ n ∷ (rs ++ (fs ++ b .read))) (λ v. 0) e → Fields-good s x d n rs fs (suc k) (put-field k (f .fields) e)
       field-next k f e h b t = record {
         read = b .read ++ (e .value ∷ []);
         good = rw (← append-assoc fs (b .read) (e .value ∷ []), ← append-assoc rs (fs ++ b .read) (e .value ∷ []))
             (passed s hs t (no-row-gap x d n (rs ++ (fs ++ b .read)) (e .value) (λ z. omega (arith, fields-length (b .read) k (b .long)))));
         long = rw (length-append (b .read) (e .value ∷ []), b .long) (omega arith);
-        filled = rw (b .filled) (fill-next (b .read) k 7 (e .value) 0 (b .long) h);
+        filled = rw (b .filled) (fill-next (b .read) k field-count (e .value) 0 (b .long) h);
       }
 
-      fields-good : (c : Cursor) → Good s (x ∷ d ∷ n ∷ (rs ++ fs)) c → (k : ℕ) → k ≤ 7
+      fields-good : (c : Cursor) → Good s (x ∷ d ∷ n ∷ (rs ++ fs)) c → (k : ℕ) → k ≤ field-count
           → (Fields-good s x d n rs fs k (fields-from s d ths i c k)) ⊎ (Stopped s (fields-from s d ths i c k .cursor))
       unfolding fields-from
       fields-good c g zero h = inl (record { read = []; good = rw (append-nil fs) g; long = refl; filled = refl })
@@ -123,8 +123,8 @@ module _ (s : List ℕ) (hs : Bytes s) where
           (λ t. inr (stopped-field s d ths i _ k _ t))
           (fields-good c g k (omega arith))
 
-    -- One more thread, of seven fields.
-    thread-next : (i : ℕ) (t : ThreadsRead) (f : FieldsRead) → i < 32 → (b : Threads-good s x d n rs i t) → Fields-good s x d n rs (b .read) 7 f
+    -- One more thread.
+    thread-next : (i : ℕ) (t : ThreadsRead) (f : FieldsRead) → i < 32 → (b : Threads-good s x d n rs i t) → Fields-good s x d n rs (b .read) field-count f
         → Threads-good s x d n rs (suc i) (put-thread i (t .threads) f)
     thread-next i t f h b u = record {
       read = b .read ++ u .read;
@@ -136,7 +136,7 @@ module _ (s : List ℕ) (hs : Bytes s) where
             (sym (rw (b .agree .long) at (getD-append-add (b .read) (u .read) 1 0))))
             (λ (q : j < i). rw (
               getD-set-other (t .threads) i j (thread-of (f .fields)) none (λ z. omega arith),
-              List·getD-append (b .read) (u .read) 0 (7 * j + 1) (omega (arith, b .agree .long)),
+              List·getD-append (b .read) (u .read) 0 (field-count * j + 1) (omega (arith, b .agree .long)),
             ) (b .agree .priorities j q))
             (eq-or-lt-of-le (omega arith));
       };
@@ -153,8 +153,8 @@ module _ (s : List ℕ) (hs : Bytes s) where
         places = refl;
       })
       threads-good (suc i) h =
-          ⊎-elim (λ b. ⊎-elim (λ u. inl (thread-next i _ _ (omega arith) b u)) inr (fields-good _ i (b .read) h (b .agree) _ (b .good) 7 (omega arith)))
-          (λ t. inr (stopped-fields s d _ i _ 7 t))
+          ⊎-elim (λ b. ⊎-elim (λ u. inl (thread-next i _ _ (omega arith) b u)) inr (fields-good _ i (b .read) h (b .agree) _ (b .good) field-count (omega arith)))
+          (λ t. inr (stopped-fields s d _ i _ field-count t))
           (threads-good i (omega arith))
 
       threads-judged : (rows : List ℕ) → Judgment s (ended s d n rows (threads-from s d c n) .told)

@@ -21,7 +21,8 @@ use Rattle.reader.specs.declared.ThreadsRead.{ThreadsRead}
 use Rattle.numeral.specs.Number.{number-at, encode, encode-all}
 use Rattle.reader.specs.Reader.{took, number-from, judged, ranged, row-from, rows-from, field-from, fields-from, ended, after-rows}
 use Rattle.codec.specs.Judging.{fault, row-gap, objection, wanted, Before, place, Judgment, no-number, objected, extra, all-read}
-use Rattle.numeral.proofs.NumberLaws.{Bytes, Told-why, number-why, encode-all-last}
+use Rattle.numeral.specs.NumberRules.{Bytes}
+use Rattle.numeral.proofs.NumberLaws.{Told-why, number-why, encode-all-last}
 use Rattle.numeral.proofs.Runs.{number-reads}
 use Rattle.numeral.proofs.RuleLaws.{number-exactly}
 use Rattle.codec.proofs.BeforeLaws.{before-next}

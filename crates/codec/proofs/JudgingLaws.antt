@@ -6,7 +6,7 @@ use Prim.Native.Nat.{ℕ}
 use Rattle.basis.specs.Told.{Told}
 use Rattle.reader.specs.Reader.{reading}
 use Rattle.codec.specs.Judging.{Judgment}
-use Rattle.numeral.proofs.NumberLaws.{Bytes}
+use Rattle.numeral.specs.NumberRules.{Bytes}
 use Rattle.codec.proofs.JudgedSound.{judged}
 use Rattle.codec.proofs.JudgedOnce.{judged-once}
 

@@ -18,7 +18,7 @@ use Rattle.writer.specs.Format.{bytes}
 use Rattle.reader.specs.Reader.{accepted, reading}
 use Rattle.writer.specs.Writer.{overlaid, writing, written}
 use Rattle.writer.proofs.WriterLaws.{written-laid}
-use Rattle.numeral.proofs.NumberLaws.{Bytes}
+use Rattle.numeral.specs.NumberRules.{Bytes}
 use Rattle.codec.proofs.Sound.{sound}
 use Rattle.codec.proofs.Complete.{complete}
 

@@ -18,13 +18,13 @@ use Rattle.basis.proofs.TestLaws.{by-test, every-all}
 use Rattle.basis.proofs.ListLaws.{all-alike}
 use Rattle.flow.specs.Flow.{row-ok}
 use Rattle.flow.specs.Gap.{Triple, first-gap}
-use Rattle.table.specs.Threads.{none, thread, fields}
+use Rattle.table.specs.Threads.{field-count, none, thread, fields, thread-of}
 use Rattle.table.specs.Ranges.{range, within, domain-counts, thread-counts, field-range}
 use Rattle.table.specs.Legal.{field-ok, thread-ok, taken, Sized, Legal}
 use Rattle.table.specs.declared.Range.{Range}
 use Rattle.table.specs.declared.Table.{Table}
 use Rattle.table.specs.declared.Thread.{Thread}
-use Rattle.table.proofs.RangeLaws.{within-low, within-high, field-range-by}
+use Rattle.table.proofs.RangeLaws.{within-low, within-high, field-range-by, fields-back}
 use Rattle.table.proofs.LegalLaws.{Parts, legal-of-parts}
 use Rattle.numeral.specs.declared.Number.{Number}
 use Rattle.numeral.specs.declared.Number.the-variants.{Value, Refused}
@@ -34,11 +34,12 @@ use Rattle.reader.specs.declared.FieldsRead.{FieldsRead}
 use Rattle.reader.specs.declared.ThreadsRead.{ThreadsRead}
 use Rattle.numeral.specs.Number.{number, number-at, encode, encode-all}
 use Rattle.writer.specs.Format.{row-numbers, thread-numbers, numbers, bytes}
-use Rattle.reader.specs.Reader.{good, took, number-from, judged, ranged, row-from, rows-from, free, field-from, fields-from, thread-of, threads-from, Read, accepted, refused-at, whole-or-gap, ended, after-rows, version-from, domains-from, count-from, reading}
-use Rattle.numeral.proofs.NumberLaws.{Bytes, Told-why, number-why, encode-all-append, encode-all-last}
+use Rattle.reader.specs.Reader.{good, took, number-from, judged, ranged, row-from, rows-from, free, field-from, fields-from, threads-from, Read, accepted, refused-at, whole-or-gap, ended, after-rows, version-from, domains-from, count-from, reading}
+use Rattle.numeral.specs.NumberRules.{Bytes}
+use Rattle.numeral.proofs.NumberLaws.{Told-why, number-why, encode-all-append, encode-all-last}
 use Rattle.numeral.proofs.Runs.{Reads, number-reads, reads-nil, reads-join}
 use Rattle.reader.proofs.ReaderLaws.{ranged-le, length-fields}
-use Rattle.codec.proofs.FormatLaws.{rows-more, threads-more, rows-set, threads-set, taken-same, fields-back}
+use Rattle.codec.proofs.FormatLaws.{rows-more, threads-more, rows-set, threads-set, taken-same}
 
 -- What was read where a part of the reader did not refuse.
 pub record Number-read (s : List ℕ) (c r : Cursor) : Type 0 where
@@ -160,7 +161,7 @@ module _ (s : List ℕ) (hs : Bytes s) where
         unused = λ j m. behind rows i j v 0 (r .unused) m;
       }
 
-  pub fields-sound : (d : ℕ) (ths : List Thread) (i : ℕ) (c : Cursor) (k : ℕ) → k ≤ 7 → fields-from s d ths i c k .cursor .refusal ≡ 0 →
+  pub fields-sound : (d : ℕ) (ths : List Thread) (i : ℕ) (c : Cursor) (k : ℕ) → k ≤ field-count → fields-from s d ths i c k .cursor .refusal ≡ 0 →
       Fields-read s d ths i c k (fields-from s d ths i c k)
   unfolding fields-from field-ok encode-all
   fields-sound d ths i c zero l h = record {
@@ -174,28 +175,28 @@ module _ (s : List ℕ) (hs : Bytes s) where
       let v : ℕ = field-from s d ths i vs k (fields-from s d ths i c k .cursor) .value in
       let f = field-sound d ths i vs k (fields-from s d ths i c k .cursor) h in
       let r : Fields-read s d ths i c k (fields-from s d ths i c k) = fields-sound d ths i c k (omega arith) (f .0 .was) in
-      let long : length vs ≡ 7 = length-fields s d ths i c k in
+      let long : length vs ≡ field-count = length-fields s d ths i c k in
       let same : (j : ℕ) → j ≤ k → field-range d (set vs k v) j ≡ field-range d vs j
       = λ j m. field-range-by d (set vs k v) vs j (λ n o. getD-set-other vs k n v 0 (λ z. omega arith)) in
       record {
         was = r .was;
         reads = rw (take-suc-set vs k v (rw long l), encode-all-last (take k vs) v) (reads-join (r .reads) (f .0 .reads));
-        ok = λ j m. rw (same j (omega arith)) (stored vs k 7 j v 0 long l (λ j v. within (field-range d vs j) v ≡ true) (r .ok) (f .1) m);
-        unclaimed = λ j m. stored vs k 7 j v 0 long l (λ j v. free ths i j v ≡ true) (r .unclaimed) (f .2) m;
+        ok = λ j m. rw (same j (omega arith)) (stored vs k field-count j v 0 long l (λ j v. within (field-range d vs j) v ≡ true) (r .ok) (f .1) m);
+        unclaimed = λ j m. stored vs k field-count j v 0 long l (λ j v. free ths i j v ≡ true) (r .unclaimed) (f .2) m;
       }
 
-  -- the seven fields make a thread in range, whose priority is not taken
-  pub thread-sound : (d : ℕ) (ths : List Thread) (i : ℕ) (c : Cursor) → fields-from s d ths i c 7 .cursor .refusal ≡ 0 →
-      (c .refusal ≡ 0) × (Reads s (c .next) (fields-from s d ths i c 7 .cursor .next) (encode-all (fields (thread-of (fields-from s d ths i c 7 .fields)))))
-      × (thread-ok d (thread-of (fields-from s d ths i c 7 .fields)) ≡ true)
-      × (taken ths i (thread-of (fields-from s d ths i c 7 .fields) .priority) ≡ false)
+  -- the fields make a thread in range, whose priority is not taken
+  pub thread-sound : (d : ℕ) (ths : List Thread) (i : ℕ) (c : Cursor) → fields-from s d ths i c field-count .cursor .refusal ≡ 0 →
+      (c .refusal ≡ 0) × (Reads s (c .next) (fields-from s d ths i c field-count .cursor .next) (encode-all (fields (thread-of (fields-from s d ths i c field-count .fields)))))
+      × (thread-ok d (thread-of (fields-from s d ths i c field-count .fields)) ≡ true)
+      × (taken ths i (thread-of (fields-from s d ths i c field-count .fields) .priority) ≡ false)
   unfolding thread-ok free
   thread-sound d ths i c h =
-      let r : Fields-read s d ths i c 7 (fields-from s d ths i c 7) = fields-sound d ths i c 7 (omega arith) h in
-      let vs : List ℕ = fields-from s d ths i c 7 .fields in
-      let long : length vs ≡ 7 = length-fields s d ths i c 7 in
+      let r : Fields-read s d ths i c field-count (fields-from s d ths i c field-count) = fields-sound d ths i c field-count (omega arith) h in
+      let vs : List ℕ = fields-from s d ths i c field-count .fields in
+      let long : length vs ≡ field-count = length-fields s d ths i c field-count in
       let back : fields (thread-of vs) ≡ vs = fields-back vs long in
-      (r .was, rw back (rw (take-all 7 vs (omega (arith, long))) at (r .reads)), rw back (every-all (field-ok d vs) 7 (r .ok)), not-true _ (r .unclaimed 1 (omega arith)))
+      (r .was, rw back (rw (take-all field-count vs (omega (arith, long))) at (r .reads)), rw back (every-all (field-ok d vs) field-count (r .ok)), not-true _ (r .unclaimed 1 (omega arith)))
 
   pub threads-sound : (d : ℕ) (c : Cursor) (i : ℕ) → i ≤ 32 → threads-from s d c i .cursor .refusal ≡ 0 → Threads-read s d c i (threads-from s d c i)
   unfolding threads-from thread-numbers encode-all
@@ -211,7 +212,7 @@ module _ (s : List ℕ) (hs : Bytes s) where
       let ths : List Thread = threads-from s d c i .threads in
       let k = thread-sound d ths i (threads-from s d c i .cursor) h in
       let r : Threads-read s d c i (threads-from s d c i) = threads-sound d c i (omega arith) (k .0) in
-      let th : Thread = thread-of (fields-from s d ths i (threads-from s d c i .cursor) 7 .fields) in
+      let th : Thread = thread-of (fields-from s d ths i (threads-from s d c i .cursor) field-count .fields) in
       let other : (j n : ℕ) → j ≤ i → n < j → getD (set ths i th) n none ≡ getD ths n none = λ j n m o. getD-set-other ths i n th none (λ z. omega arith) in
       let free-at : (j : ℕ) → Thread → Type 0 = λ j x. taken ths j (x .priority) ≡ false in
       record {

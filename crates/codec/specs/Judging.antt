@@ -10,6 +10,7 @@ use Rattle.basis.specs.Tests.{pick, and, some}
 use Rattle.basis.specs.Told.{Told, answered, refused}
 use Rattle.flow.specs.Flow.{row-ok}
 use Rattle.flow.specs.Gap.{first-gap, gap-told}
+use Rattle.table.specs.Threads.{field-count}
 use Rattle.table.specs.Ranges.{within, domain-counts, thread-counts, field-range}
 use Rattle.numeral.specs.Number.{encode-all}
 use Rattle.numeral.specs.NumberRules.{No-number, Number-value}
@@ -18,10 +19,10 @@ use Rattle.numeral.specs.NumberRules.{No-number, Number-value}
 -- thread i is being read, k is its next field, and field 1 is the priority.
 unfoldable pub field-fault : ℕ → List ℕ → ℕ → ℕ
 field-fault d fs v =
-    let i = length fs / 7 in
-    let k = length fs % 7 in
-    pick (within (field-range d (drop (7 * i) fs) k) v)
-    (pick (and (eqb k 1) (some i (λ j. eqb (getD fs (7 * j + 1) 0) v))) 9 0)
+    let i = length fs / field-count in
+    let k = length fs % field-count in
+    pick (within (field-range d (drop (field-count * i) fs) k) v)
+    (pick (and (eqb k 1) (some i (λ j. eqb (getD fs (field-count * j + 1) 0) v))) 9 0)
     8
 
 -- Why v is refused as the next number after the numbers vs (0: it passes).
@@ -42,12 +43,12 @@ row-gap (version ∷ d ∷ n ∷ vs) v = pick (eqb (length vs + 1) d) (gap-told 
 unfoldable pub objection : List ℕ → ℕ → Told
 objection vs v = pick (eqb (fault vs v) 0) (row-gap vs v) (refused (fault vs v))
 
--- Another number is wanted after vs: three, one for each domain, seven for each thread.
+-- Another number is wanted after vs: three, one for each domain, the fields of each thread.
 unfoldable pub wanted : List ℕ → Bool
 wanted [] = true
 wanted (version ∷ []) = true
 wanted (version ∷ d ∷ []) = true
-wanted (version ∷ d ∷ n ∷ vs) = ltb (length vs) (d + 7 * n)
+wanted (version ∷ d ∷ n ∷ vs) = ltb (length vs) (d + field-count * n)
 
 -- The bytes s start with the numbers vs, each wanted where it stands and not objected to.
 pub record Before (s vs : List ℕ) : Type 0 where

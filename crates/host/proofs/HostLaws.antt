@@ -1,23 +1,29 @@
 -- What the host is told, case by case: the reader's refusal, then 15, then the answer about a thread.
-use Prim.Native.Nat.{ℕ, _≤_, _<_}
-use mathlib.Core.Path.{_≡_, refl, sym, _∙_}
+use Prim.Native.Nat.{ℕ, _+_, _-_, _≤_, _<_}
+use mathlib.Core.Path.{_≡_, refl, sym, _∙_, ap, subst}
 use mathlib.Core.List.{List}
 use mathlib.Core.Bool.{Bool, true, false}
 use mathlib.Core.Logic.{_≢_, _↔_}
 use native.Mathlib.Omega.{arith}
-use borrow.Author.Tests.{eq-eqb, ne-eqb, lt-ltb, le-ltb}
+use lib.ListN.{getD}
+use lib.Dec.{eqb, ltb}
+use borrow.Author.Tests.{eq-eqb, ne-eqb, lt-ltb, le-ltb, eqb-true, eqb-false, ltb-true, ltb-false}
 use Rattle.basis.specs.Tests.{pick}
+use Rattle.basis.specs.Search.{Sought, nothing, found}
+use Rattle.basis.proofs.TestLaws.{by-test, either}
 use Rattle.table.specs.declared.Table.{Table}
-use Rattle.table.specs.Legal.{legal}
-use Rattle.table.specs.Mark.{Leaks}
+use Rattle.table.specs.Legal.{legal, Legal}
+use Rattle.table.specs.Mark.{Leaks, marks-given}
 use Rattle.table.proofs.LegalLaws.{legal-complete}
 use Rattle.table.proofs.MarkLaws.{marks-exactly}
-use Rattle.numeral.proofs.NumberLaws.{Bytes}
+use Rattle.numeral.specs.NumberRules.{Bytes}
 use Rattle.reader.specs.Reader.{accepted, reading}
+use Rattle.reader.proofs.ReaderLaws.{accepted-plain}
 use Rattle.codec.proofs.RoundTrip.{accepted-exactly}
-use Rattle.admission.specs.Bounded.{bounding, Is-bound, No-bound}
-use Rattle.admission.proofs.BoundLaws.{bound-at, bound-none}
-use Rattle.host.specs.Host.{verdict, refusal, of-thread, mark-number, told-number, bound-number, thread-mark, thread-bound}
+use Rattle.admission.specs.Bounded.{bound, sought-told, bounding, Is-bound, No-bound}
+use Rattle.admission.specs.Admit.{or-zero}
+use Rattle.admission.proofs.BoundLaws.{bound-at, bound-none, is-of-bound, none-of-bound}
+use Rattle.host.specs.Host.{verdict, refusal, of-thread, mark-number, told-number, bound-number, thread-mark, thread-bound, Refuses, not-read, no-thread, Refused, Without-bound}
 
 module _ (f : Table → ℕ → ℕ) (s : List ℕ) (i : ℕ) where
   pub unread : verdict s ≢ 0 → of-thread f s i ≡ refusal (verdict s)
@@ -31,6 +37,108 @@ module _ (f : Table → ℕ → ℕ) (s : List ℕ) (i : ℕ) where
   pub answering : verdict s ≡ 0 → i < reading s .table .count → of-thread f s i ≡ f (reading s .table) i
   unfolding of-thread pick
   answering h l = rw (eq-eqb _ _ h, lt-ltb _ _ l)
+
+-- Answers that are small of every thread of a table are apart from the refusals: 100,000 and n is answered exactly where n refuses.
+module _ (f : Table → ℕ → ℕ) (s : List ℕ) (i : ℕ) (small : verdict s ≡ 0 → i < reading s .table .count → f (reading s .table) i < 100000) where
+  refused-only : {n : ℕ} → Refuses s i n → of-thread f s i ≡ refusal n
+  refused-only (not-read h) = unread f s i h
+  refused-only (no-thread h l) = lacking f s i h l
+
+  refused-given : (n : ℕ) → of-thread f s i ≡ refusal n → Refuses s i n
+  refused-given n e =
+      by-test (eqb (verdict s) 0)
+      (λ a. let z : verdict s ≡ 0 = eqb-true _ _ a in
+      by-test (ltb i (reading s .table .count))
+      (λ b. let l : i < reading s .table .count = ltb-true _ _ b in absurd (omega (arith, small z l, e, answering f s i z l)))
+      (λ b. let l : reading s .table .count ≤ i = ltb-false _ _ b in
+      let q : 15 ≡ n = omega (arith, e, lacking f s i z l) in subst (λ (m : ℕ). Refuses s i m) q (no-thread z l)))
+      (λ a. let z : verdict s ≢ 0 = eqb-false _ _ a in
+      let q : verdict s ≡ n = omega (arith, e, unread f s i z) in subst (λ (m : ℕ). Refuses s i m) q (not-read z))
+
+  refused-exactly : (n : ℕ) → (of-thread f s i ≡ refusal n) ↔ Refuses s i n
+  refused-exactly n = (λ e. refused-given n e, λ r. refused-only r)
+
+  apart-exactly : (100000 ≤ of-thread f s i) ↔ Refused s i
+  apart-exactly = (
+    λ h. record { number = of-thread f s i - 100000; refuses = refused-given (of-thread f s i - 100000) (omega arith) },
+    λ r. omega (arith, refused-only (r .refuses)),
+  )
+
+mark-small : (t : Table) (i : ℕ) → mark-number t i < 100000
+unfolding mark-number
+mark-small t i = either (λ (n : ℕ). n < 100000) (getD (marks-given t) i false) (λ e. omega arith) (λ e. omega arith)
+
+-- A mark answers 100,000 and more exactly on a refusal, and then says which.
+pub mark-refused-exactly : (s : List ℕ) (i n : ℕ) → (thread-mark s i ≡ refusal n) ↔ Refuses s i n
+unfolding thread-mark
+mark-refused-exactly s i n = refused-exactly mark-number s i (λ z l. mark-small (reading s .table) i) n
+
+pub mark-apart-exactly : (s : List ℕ) (i : ℕ) → (100000 ≤ thread-mark s i) ↔ Refused s i
+unfolding thread-mark
+mark-apart-exactly s i = apart-exactly mark-number s i (λ z l. mark-small (reading s .table) i)
+
+-- A bound by its search: 0 where nothing was found.
+bound-told : (b : Sought ℕ) → told-number (sought-told b) ≡ or-zero b
+unfolding told-number pick
+bound-told nothing = refl
+bound-told (found x) = refl
+
+bound-by : (t : Table) (i : ℕ) → legal t ≡ true → i < t .count → bound-number t i ≡ or-zero (bound t i)
+unfolding bound-number bounding pick
+bound-by t i a l = rw (a, lt-ltb i (t .count) l) (bound-told (bound t i))
+
+module _ (t : Table) (g : Legal t) (i : ℕ) (l : i < t .count) where
+  found-small : (b : Sought ℕ) → bound t i ≡ b → or-zero b < 100000
+  found-small nothing e = omega arith
+  found-small (found x) e = let th = g .threads i l in omega (arith, is-of-bound t i x e .to-deadline, th .deadline-high, th .period-high)
+
+  zero-none : (b : Sought ℕ) → bound t i ≡ b → or-zero b ≡ 0 → No-bound t i
+  zero-none nothing e z = none-of-bound t i e
+  zero-none (found x) e z = absurd (omega (arith, is-of-bound t i x e .from-budget, g .threads i l .budget-low))
+
+module _ (s : List ℕ) (b : Bytes s) (i : ℕ) where
+  legal-read : verdict s ≡ 0 → Legal (reading s .table)
+  unfolding verdict
+  legal-read z = accepted-exactly s b (reading s .table) .0 (accepted-plain s z) .0
+
+  bound-small : verdict s ≡ 0 → i < reading s .table .count → bound-number (reading s .table) i < 100000
+  bound-small z l =
+      let g : Legal (reading s .table) = legal-read z in
+      rw (bound-by (reading s .table) i (legal-complete _ g) l) (found-small (reading s .table) g i l (bound (reading s .table) i) refl)
+
+  -- A bound answers 100,000 and more exactly on a refusal, and then says which.
+  pub bound-refused-exactly : (n : ℕ) → (thread-bound s i ≡ refusal n) ↔ Refuses s i n
+  unfolding thread-bound
+  bound-refused-exactly n = refused-exactly bound-number s i bound-small n
+
+  pub bound-apart-exactly : (100000 ≤ thread-bound s i) ↔ Refused s i
+  unfolding thread-bound
+  bound-apart-exactly = apart-exactly bound-number s i bound-small
+
+  none-of-zero : thread-bound s i ≡ 0 → Without-bound s i
+  unfolding thread-bound
+  none-of-zero e =
+      by-test (eqb (verdict s) 0)
+      (λ a. let z : verdict s ≡ 0 = eqb-true _ _ a in
+      by-test (ltb i (reading s .table .count))
+      (λ u. let l : i < reading s .table .count = ltb-true _ _ u in
+      let g : Legal (reading s .table) = legal-read z in
+      let q : or-zero (bound (reading s .table) i) ≡ 0
+      = sym (bound-by (reading s .table) i (legal-complete _ g) l) ∙ sym (answering bound-number s i z l) ∙ e in
+      record { read = z; in-table = l; none = zero-none (reading s .table) g i l (bound (reading s .table) i) refl q })
+      (λ u. absurd (omega (arith, e, lacking bound-number s i z (ltb-false _ _ u)))))
+      (λ a. absurd (omega (arith, e, unread bound-number s i (eqb-false _ _ a))))
+
+  -- The bound's answer is 0 exactly where the bytes hold a table whose thread i has no bound.
+  pub bound-zero-exactly : (thread-bound s i ≡ 0) ↔ Without-bound s i
+  unfolding thread-bound
+  bound-zero-exactly = (
+    none-of-zero,
+    λ w.
+        let a : legal (reading s .table) ≡ true = legal-complete _ (legal-read (w .read)) in
+        answering bound-number s i (w .read) (w .in-table) ∙ bound-by (reading s .table) i a (w .in-table)
+        ∙ ap or-zero (bound-none (reading s .table) i (w .none)),
+  )
 
 one-of : _≡_ {A = ℕ} (pick true 1 0) 1
 unfolding pick

@@ -1,5 +1,7 @@
 -- What the host in C is told: numbers, with 100,000 and the number for a refusal.
-use Prim.Native.Nat.{ℕ, _+_}
+use Prim.Native.Nat.{ℕ, _+_, _≤_, _<_}
+use mathlib.Core.Path.{_≡_}
+use mathlib.Core.Logic.{_≢_}
 use mathlib.Core.List.{List, [], _∷_}
 use mathlib.Core.Bool.{false}
 use lib.ListN.{getD}
@@ -9,7 +11,7 @@ use Rattle.basis.specs.Told.{Told}
 use Rattle.table.specs.Mark.{marks-given}
 use Rattle.table.specs.declared.Table.{Table}
 use Rattle.reader.specs.Reader.{reading}
-use Rattle.admission.specs.Bounded.{bounding}
+use Rattle.admission.specs.Bounded.{bounding, No-bound}
 
 -- The reader's verdict on the bytes: 0, or the refusal.
 unfoldable pub verdict : List ℕ → ℕ
@@ -45,3 +47,19 @@ thread-mark s i = of-thread mark-number s i
 
 unfoldable pub thread-bound : List ℕ → ℕ → ℕ
 thread-bound s i = of-thread bound-number s i
+
+-- What a question about thread i is refused with, in plain words: the reader's number, or 15 where the table lacks the thread.
+pub data Refuses (s : List ℕ) (i : ℕ) : ℕ → Type 0 where
+  not-read : verdict s ≢ 0 → Refuses s i (verdict s)
+  no-thread : verdict s ≡ 0 → reading s .table .count ≤ i → Refuses s i 15
+
+-- It is refused with some number.
+pub record Refused (s : List ℕ) (i : ℕ) : Type 0 where
+  pub number : ℕ
+  pub refuses : Refuses s i number
+
+-- The bytes hold a table with a thread i, and the thread has no bound.
+pub record Without-bound (s : List ℕ) (i : ℕ) : Type 0 where
+  pub read : verdict s ≡ 0
+  pub in-table : i < reading s .table .count
+  pub none : No-bound (reading s .table) i

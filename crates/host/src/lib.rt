@@ -1,6 +1,7 @@
 // What the turbine's host in C calls: numbers and a byte slice, which C passes as a pointer and a length.
 ghost use mathlib.Core.Path.{_≡_};
 ghost use Prim.Native.Nat.{_<_};
+ghost use Rattle.numeral.specs.NumberRules.{Bytes};
 ghost use Rattle.reader.specs.Reader.{told as told-verdict};
 ghost use Rattle.admission.specs.Bounded.{told as told-bound};
 ghost use Rattle.host.specs.Host.{verdict, refusal, mark-number, told-number, thread-mark, thread-bound};
@@ -62,7 +63,7 @@ fn bound_number(b: Bound) -> u32
 // The reader's verdict on the bytes: 0, or the refusal.
 #[no_mangle]
 pub extern "C" fn mikuzerao_verdict(bytes: &[u8]) -> u32
-    ensures { λ r. ⌜ r ≡ verdict (now (bytes .entry)) ⌝ }
+    ensures { λ r. ⌜ (r ≡ verdict (now (bytes .entry))) × Bytes (now (bytes .entry)) ⌝ }
 {
     let r = codec::read(bytes);
     let v = r.verdict;
@@ -72,7 +73,7 @@ pub extern "C" fn mikuzerao_verdict(bytes: &[u8]) -> u32
 // A thread's mark, 0 or 1; 100,000 and the number on a refusal: the reader's, then 15.
 #[no_mangle]
 pub extern "C" fn mikuzerao_mark(bytes: &[u8], thread: u32) -> u32
-    ensures { λ r. ⌜ r ≡ thread-mark (now (bytes .entry)) thread ⌝ }
+    ensures { λ r. ⌜ (r ≡ thread-mark (now (bytes .entry)) thread) × Bytes (now (bytes .entry)) ⌝ }
 {
     let r = codec::read(bytes);
     let v = r.verdict;
@@ -90,7 +91,7 @@ pub extern "C" fn mikuzerao_mark(bytes: &[u8], thread: u32) -> u32
 // A thread's bound, 0 for none; 100,000 and the number on a refusal: the reader's, then 15.
 #[no_mangle]
 pub extern "C" fn mikuzerao_bound(bytes: &[u8], thread: u32) -> u32
-    ensures { λ r. ⌜ r ≡ thread-bound (now (bytes .entry)) thread ⌝ }
+    ensures { λ r. ⌜ (r ≡ thread-bound (now (bytes .entry)) thread) × Bytes (now (bytes .entry)) ⌝ }
 {
     let r = codec::read(bytes);
     let v = r.verdict;

@@ -5,13 +5,16 @@ use mathlib.Core.Bool.{Bool, true, false}
 use mathlib.Core.List.{List, [], _∷_, _++_, append-assoc, append-nil}
 use native.Mathlib.Omega.{arith}
 use lib.ListN.{length, getD, take, drop}
-use lib.Seq.{drop-append-seam, take-append-seam, getD-drop, take-suc}
+use lib.Seq.{getD-drop, take-suc}
 use lib.Dec.{eqb, ltb, leb}
 use borrow.Author.Tests.{le-leb, lt-leb, lt-ltb, le-ltb, eq-eqb, ne-eqb, ltb-true, ltb-false, leb-false, eqb-false}
 use Rattle.numeral.specs.declared.Number.{Number}
 use Rattle.numeral.specs.declared.Number.the-variants.{Value, Refused}
 use Rattle.numeral.specs.Number.{third, second, number, number-at, encode, encode-all}
+use Rattle.numeral.specs.NumberRules.{Bytes, Stands}
 use mathlib.Core.Logic.{_≢_}
+use mir.Val.{Fits}
+use mir.Syntax.{w8}
 use Rattle.basis.specs.Tests.{pick}
 use Rattle.basis.proofs.TestLaws.{by-test, either}
 
@@ -86,18 +89,12 @@ unfolding number
 number-why at [] = omega arith
 number-why at (b ∷ s) = either Told-why (ltb b 128) (λ t. omega arith) (λ t. second-why (at + 1) _ s)
 
--- every element is a byte
-abbrev pub Bytes : List ℕ → Type 0
-Bytes s = (i : ℕ) → getD s i 0 < 256
-
--- v stands first in s, in the bytes up to n if s starts at p
-pub record Stands (p v n : ℕ) (s : List ℕ) : Type 0 where
-  pub small : v < 65536
-  pub next : n ≡ p + length (encode v)
-  pub bytes : s ≡ encode v ++ drop (length (encode v)) s
+-- What is known of a slice of bytes.
+pub held-bytes : {s : List ℕ} → ((i : ℕ) → Fits w8 (getD s i 0)) → Bytes s
+held-bytes h = record { each = λ i. h i .fits }
 
 stands : {p v n : ℕ} {s : List ℕ} (e : List ℕ) → encode v ≡ e → v < 65536 → n ≡ p + length e → s ≡ e ++ drop (length e) s → Stands p v n s
-stands e q h k l = record { small = h; next = rw q k; bytes = rw q l }
+stands e q h k l = record { small = h; next-place = rw q k; bytes = rw q l }
 
 no : {A : Type 0} {x v n : ℕ} → Refused x ≡ Value v n → A
 no e = let z : _≡_ {A = ℕ} 0 1 = cc in absurd (omega arith)
@@ -139,7 +136,7 @@ second-back p a v n (b ∷ s) ha ha' hs e =
     let e1 : a ≡ 128 + v % 128 = omega arith in
     let e2 : b ≡ v / 128 = omega arith in
     stands _ (encode-two v (omega arith) (omega arith)) (omega arith) (omega arith) (cc))
-    (λ u. third-back p a b v n s ha ha' (ltb-false b 128 u) (hs 0) (rw (t, u) at e)))
+    (λ u. third-back p a b v n s ha ha' (ltb-false b 128 u) (hs .each 0) (rw (t, u) at e)))
 
 -- write after read: an accepted number stands there in its bytes
 pub number-back : (p v n : ℕ) (s : List ℕ) → Bytes s → number p s ≡ Value v n → Stands p v n s
@@ -152,20 +149,12 @@ number-back p v n (a ∷ s) hs e =
     let en : p + 1 ≡ n = cc in
     let la : a < 128 = ltb-true a 128 u in
     stands _ (encode-one v (omega arith)) (omega arith) (omega arith) (cc))
-    (λ u. second-back p a v n s (ltb-false a 128 u) (hs 0) (λ i. hs (suc i)) (rw u at e))
+    (λ u. second-back p a v n s (ltb-false a 128 u) (hs .each 0) (record { each = λ i. hs .each (suc i) }) (rw u at e))
 
 -- the same at a place of a longer list
-pub number-at-encode : (pre post : List ℕ) (v : ℕ) → v < 65536 →
-    number-at (pre ++ (encode v ++ post)) (length pre) ≡ Value v (length pre + length (encode v))
-unfolding number-at
-number-at-encode pre post v h = rw (drop-append-seam pre (encode v ++ post)) (number-encode v (length pre) post h)
-
 pub number-at-back : (s : List ℕ) (at v n : ℕ) → Bytes s → number-at s at ≡ Value v n → Stands at v n (drop at s)
 unfolding number-at
-number-at-back s at v n hs e = number-back at v n (drop at s) (λ i. rw (getD-drop at s i 0) (hs (at + i))) e
-
-pub number-at-slice : (s : List ℕ) (at v n : ℕ) → Bytes s → number-at s at ≡ Value v n → take (length (encode v)) (drop at s) ≡ encode v
-number-at-slice s at v n hs e = rw (number-at-back s at v n hs e .bytes) (take-append-seam (encode v) _)
+number-at-back s at v n hs e = number-back at v n (drop at s) (record { each = λ i. rw (getD-drop at s i 0) (hs .each (at + i)) }) e
 
 -- The bytes of several numbers.
 pub encode-all-append : (xs ys : List ℕ) → encode-all (xs ++ ys) ≡ encode-all xs ++ encode-all ys

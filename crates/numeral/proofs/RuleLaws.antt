@@ -12,8 +12,8 @@ use Rattle.basis.proofs.TestLaws.{either}
 use Rattle.numeral.specs.declared.Number.{Number}
 use Rattle.numeral.specs.declared.Number.the-variants.{Value, Refused}
 use Rattle.numeral.specs.Number.{third, second, number, number-at, encode}
-use Rattle.numeral.specs.NumberRules.{of-three, No-number, first-missing, second-missing, third-missing, third-goes-on, second-zero, third-zero, too-large, Number-value, one-byte, two-bytes, three-bytes, Rule}
-use Rattle.numeral.proofs.NumberLaws.{Bytes, Stands, number-encode, number-at-back}
+use Rattle.numeral.specs.NumberRules.{of-three, No-number, first-missing, second-missing, third-missing, third-goes-on, second-zero, third-zero, too-large, Number-value, one-byte, two-bytes, three-bytes, Rule, Bytes, Stands}
+use Rattle.numeral.proofs.NumberLaws.{number-encode, number-at-back}
 
 third-rule : (at a b : ℕ) (s : List ℕ) → 128 ≤ a → 128 ≤ b → Rule at (a ∷ b ∷ s) (third (at + 1 + 1) (a - 128 + 128 * (b - 128)) s)
 unfolding third
@@ -97,5 +97,5 @@ pub value-exactly : (s : List ℕ) (at v next : ℕ) → Bytes s → (number-at 
 unfolding number-at
 value-exactly s at v next hs = (
   λ e. number-at-back s at v next hs e,
-  λ h. rw (h .next, h .bytes) (number-encode v at (drop (length (encode v)) (drop at s)) (h .small)),
+  λ h. rw (h .next-place, h .bytes) (number-encode v at (drop (length (encode v)) (drop at s)) (h .small)),
 )

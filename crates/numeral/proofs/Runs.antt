@@ -9,7 +9,8 @@ use lib.Seq.{drop-append-seam, drop-drop, drop-length}
 use Rattle.numeral.specs.declared.Number.{Number}
 use Rattle.numeral.specs.declared.Number.the-variants.{Value, Refused}
 use Rattle.numeral.specs.Number.{number-at, number, encode}
-use Rattle.numeral.proofs.NumberLaws.{Bytes, Stands, number-at-back, number-encode}
+use Rattle.numeral.specs.NumberRules.{Bytes, Stands}
+use Rattle.numeral.proofs.NumberLaws.{number-at-back, number-encode}
 
 pub record Reads (s : List ℕ) (p q : ℕ) (xs : List ℕ) : Type 0 where
   pub stands : drop p s ≡ xs ++ drop q s
@@ -36,7 +37,7 @@ reads-all s = record { stands = rw (drop-length s) (sym (append-nil s)); ends = 
 pub number-reads : (s : List ℕ) (p v q : ℕ) → Bytes s → number-at s p ≡ Value v q → (v < 65536) × (Reads s p q (encode v))
 number-reads s p v q hs e =
     let h : Stands p v q (drop p s) = number-at-back s p v q hs e in
-    (h .small, record { stands = rw (h .next, ← drop-drop (length (encode v)) p s) (h .bytes); ends = h .next })
+    (h .small, record { stands = rw (h .next-place, ← drop-drop (length (encode v)) p s) (h .bytes); ends = h .next-place })
 
 pub reads-number : (s : List ℕ) (p v q : ℕ) → v < 65536 → Reads s p q (encode v) → number-at s p ≡ Value v q
 unfolding number-at

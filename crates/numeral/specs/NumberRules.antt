@@ -1,8 +1,15 @@
 -- What stands first in a run of bytes, in document 01's words: no number, with 1, 2 or 3, or a number with its value.
 use Prim.Native.Nat.{ℕ, _+_, _-_, _*_, _≤_, _<_}
-use mathlib.Core.List.{List, [], _∷_}
+use mathlib.Core.Path.{_≡_}
+use mathlib.Core.List.{List, [], _∷_, _++_}
+use lib.ListN.{length, getD, drop}
 use Rattle.numeral.specs.declared.Number.{Number}
 use Rattle.numeral.specs.declared.Number.the-variants.{Value, Refused}
+use Rattle.numeral.specs.Number.{encode}
+
+-- What the type `&[u8]` says of a list: each element is a byte.
+pub record Bytes (s : List ℕ) : Type 0 where
+  pub each : (i : ℕ) → getD s i 0 < 256
 
 -- The value of three bytes: seven bits of each, lowest first.
 abbrev pub of-three : ℕ → ℕ → ℕ → ℕ
@@ -33,3 +40,9 @@ pub data Number-value (at : ℕ) : List ℕ → ℕ → ℕ → Type 0 where
 abbrev pub Rule : ℕ → List ℕ → Number → Type 0
 Rule at s (Value v next) = Number-value at s v next
 Rule at s (Refused why) = No-number s why
+
+-- The bytes s, of which the first stands at a place, start with the shortest bytes of v, and next is the place after these.
+pub record Stands (at v next : ℕ) (s : List ℕ) : Type 0 where
+  pub small : v < 65536
+  pub next-place : next ≡ at + length (encode v)
+  pub bytes : s ≡ encode v ++ drop (length (encode v)) s

@@ -3,6 +3,7 @@ ghost use mathlib.Core.Path.{_≡_};
 ghost use Prim.Native.Nat.{_<_};
 ghost use lib.ListN.{drop};
 ghost use Rattle.numeral.specs.Number.{third, second, number-at};
+ghost use Rattle.numeral.specs.NumberRules.{Bytes};
 
 // A number and the place after it, or the refusal.
 pub enum Number {
@@ -58,7 +59,7 @@ fn second_byte(s: &[u8], at: usize, v: u32) -> Number
 
 // The number that starts at a place.
 pub fn read_number(s: &[u8], at: usize) -> Number
-    ensures { λ r. ⌜ r ≡ number-at (now (s .entry)) at ⌝ }
+    ensures { λ r. ⌜ (r ≡ number-at (now (s .entry)) at) × Bytes (now (s .entry)) ⌝ }
 {
     if s.len() <= at {
         return Number::Refused(1);

@@ -10,15 +10,17 @@ use native.Mathlib.Omega.{arith}
 use lib.ListN.{length, set, getD, replicate, length-set}
 use lib.Seq.{getD-set-same, getD-set-other}
 use lib.Dec.{eqb, ltb}
+use borrow.Author.Tests.{eqb-false}
 use Rattle.basis.specs.Tests.{pick}
 use Rattle.basis.specs.Told.{Told}
 use Rattle.basis.specs.Search.{Sought, nothing, found}
 use Rattle.basis.proofs.TestLaws.{by-test, either}
 use Rattle.flow.specs.Gap.{Triple, first-gap}
-use Rattle.table.specs.Ranges.{range, within, domain-counts, thread-counts, field-range, field-ranges}
+use Rattle.table.specs.Threads.{field-count, Narrow}
+use Rattle.table.specs.Ranges.{range, within, domain-counts, thread-counts, field-range}
 use Rattle.table.specs.declared.Range.{Range}
 use Rattle.table.specs.declared.Thread.{Thread}
-use Rattle.table.proofs.RangeLaws.{within-high}
+use Rattle.table.proofs.RangeLaws.{within-high, field-range-by, narrow-by}
 use Rattle.reader.specs.declared.Cursor.{Cursor}
 use Rattle.reader.specs.declared.RowsRead.{RowsRead}
 use Rattle.reader.specs.declared.FieldsRead.{FieldsRead}
@@ -26,7 +28,7 @@ use Rattle.reader.specs.declared.ThreadsRead.{ThreadsRead}
 use Rattle.reader.specs.declared.Verdict.{Verdict}
 use Rattle.reader.specs.declared.Verdict.the-variants.{Accepted, Refused, Intransitive}
 use Rattle.reader.specs.declared.Reading.{Reading}
-use Rattle.reader.specs.Reader.{Read, told, read-of, good, number-from, judged, ranged, row-from, put-row, rows-from, free, field-from, put-field, fields-from, put-thread, threads-from, no-table, ended, whole-or-gap, after-rows, version-from, domains-from, count-from, reading}
+use Rattle.reader.specs.Reader.{Read, told, read-of, good, number-from, judged, ranged, row-from, put-row, rows-from, free, field-from, put-field, fields-from, put-thread, threads-from, accepted, no-table, ended, whole-or-gap, after-rows, version-from, domains-from, count-from, reading}
 
 -- One turn of each loop.
 pub rows-next : (s : List ℕ) (d : ℕ) (c : Cursor) (i : ℕ) (k k' : Cursor) (rows : List ℕ) →
@@ -41,7 +43,7 @@ unfolding fields-from
 fields-next s d ths i c k a a' vs e f = rw (add-one, ← e, f)
 
 pub threads-next : (s : List ℕ) (d : ℕ) (c : Cursor) (i : ℕ) (k : Cursor) (ths : List Thread) (f : FieldsRead) →
-    record { cursor = k; threads = ths } ≡ threads-from s d c i → f ≡ fields-from s d ths i k 7 → put-thread i ths f ≡ threads-from s d c (i + 1)
+    record { cursor = k; threads = ths } ≡ threads-from s d c i → f ≡ fields-from s d ths i k field-count → put-thread i ths f ≡ threads-from s d c (i + 1)
 unfolding threads-from
 threads-next s d c i k ths f e g = rw (add-one, ← e, g)
 
@@ -84,13 +86,13 @@ field-le s d ths i vs k c =
     let r : Cursor = ranged s c (field-range d vs k) 8 in
     omega (arith, ranged-le s c (field-range d vs k) 8, judged-le r (free ths i k (r .value)) 9)
 
-pub length-fields : (s : List ℕ) (d : ℕ) (ths : List Thread) (i : ℕ) (c : Cursor) (k : ℕ) → length (fields-from s d ths i c k .fields) ≡ 7
+pub length-fields : (s : List ℕ) (d : ℕ) (ths : List Thread) (i : ℕ) (c : Cursor) (k : ℕ) → length (fields-from s d ths i c k .fields) ≡ field-count
 unfolding fields-from
 length-fields s d ths i c zero = refl
 length-fields s d ths i c (suc k) = simp length-set (length-fields s d ths i c k)
 
 -- A field, once read, stays while the later ones are read.
-pub field-at : (s : List ℕ) (d : ℕ) (ths : List Thread) (i : ℕ) (c : Cursor) (j k : ℕ) → j < k → k ≤ 7 →
+pub field-at : (s : List ℕ) (d : ℕ) (ths : List Thread) (i : ℕ) (c : Cursor) (j k : ℕ) → j < k → k ≤ field-count →
     getD (fields-from s d ths i c k .fields) j 0 ≡ field-from s d ths i (fields-from s d ths i c j .fields) j (fields-from s d ths i c j .cursor) .value
 unfolding fields-from
 field-at s d ths i c j zero h l = absurd (omega arith)
@@ -101,15 +103,17 @@ field-at s d ths i c j (suc k) h l =
     (λ (q : j < k). getD-set-other vs k j _ 0 (λ z. omega arith) ∙ field-at s d ths i c j k q (omega arith))
     (eq-or-lt-of-le (omega arith))
 
--- So the domain and the priority that were read fit a byte.
-pub fields-small : (s : List ℕ) (d : ℕ) (ths : List Thread) (i : ℕ) (c : Cursor) → d < 256 →
-    (getD (fields-from s d ths i c 7 .fields) 0 0 < 256) × (getD (fields-from s d ths i c 7 .fields) 1 0 < 256)
-unfolding field-range field-ranges
+-- So each field that was read is below the limit of its range, and those that a thread keeps in one byte fit there.
+pub fields-small : (s : List ℕ) (d : ℕ) (ths : List Thread) (i : ℕ) (c : Cursor) → d < 256 → Narrow (fields-from s d ths i c field-count .fields)
 fields-small s d ths i c h =
     let at : ℕ → FieldsRead = fields-from s d ths i c in
-    let la = field-le s d ths i (at 0 .fields) 0 (at 0 .cursor) in
-    let lb = field-le s d ths i (at 1 .fields) 1 (at 1 .cursor) in
-    (rw (field-at s d ths i c 0 7 (omega arith) (omega arith)) (omega (arith, la)), rw (field-at s d ths i c 1 7 (omega arith) (omega arith)) (omega (arith, lb)))
+    let same : (k j : ℕ) → k < field-count → j < k → getD (at k .fields) j 0 ≡ getD (at field-count .fields) j 0
+    = λ k j l m. field-at s d ths i c j k m (omega arith) ∙ sym (field-at s d ths i c j field-count (omega arith) (omega arith)) in
+    narrow-by d (at field-count .fields) h
+    (λ k l. rw (
+      field-at s d ths i c k field-count l (omega arith),
+      ← field-range-by d (at k .fields) (at field-count .fields) k (λ j m. same k j l m),
+    ) (field-le s d ths i (at k .fields) k (at k .cursor)))
 
 -- The table of a refused reading is all zero.
 abbrev Zero : Read → Type 0
@@ -143,6 +147,31 @@ refused-zero s =
 
     threads : ThreadsRead
     threads = threads-from s d (rows .cursor) n
+
+-- A reading that is not refused is accepted.
+abbrev Plain : Read → Type 0
+Plain r = r .told .number ≡ 0 → r ≡ accepted (r .table)
+
+plain-ended : (s : List ℕ) (d n : ℕ) (rows : List ℕ) (t : ThreadsRead) → Plain (ended s d n rows t)
+unfolding ended
+plain-ended s d n rows t =
+    either Plain (eqb (t .cursor .refusal) 0)
+    (λ e. either Plain (ltb (t .cursor .next) (length s)) (λ f h. absurd (omega arith)) (λ f h. refl))
+    (λ e h. absurd (eqb-false (t .cursor .refusal) 0 e h))
+
+plain-gap : (place : ℕ) (g : Sought Triple) (r : Read) → Plain r → Plain (whole-or-gap place g r)
+plain-gap place nothing r z = z
+plain-gap place (found g) r z = λ h. absurd (omega arith)
+
+pub accepted-plain : (s : List ℕ) → reading s .told .number ≡ 0 → reading s ≡ accepted (reading s .table)
+unfolding reading after-rows
+accepted-plain s =
+    let d : ℕ = domains-from s .value in
+    let n : ℕ = count-from s .value in
+    let r : RowsRead = rows-from s d (count-from s) d in
+    either Plain (eqb (r .cursor .refusal) 0)
+    (λ e. plain-gap (r .cursor .start) (first-gap (r .rows) d) _ (plain-ended s d n (r .rows) (threads-from s d (r .cursor) n)))
+    (λ e h. absurd (eqb-false (r .cursor .refusal) 0 e h))
 
 -- A verdict has one reading.
 pub told-injective : (v w : Verdict) → told v ≡ told w → v ≡ w

@@ -9,7 +9,7 @@ use Rattle.basis.specs.Search.{Sought, nothing, found}
 use Rattle.basis.specs.Told.{Told, answered}
 use Rattle.flow.specs.Flow.{row-ok}
 use Rattle.flow.specs.Gap.{Triple, first-gap}
-use Rattle.table.specs.Threads.{none}
+use Rattle.table.specs.Threads.{field-count, thread-of, none}
 use Rattle.table.specs.Ranges.{range, within, domain-counts, thread-counts, field-range}
 use Rattle.table.specs.Legal.{taken}
 use Rattle.table.specs.declared.Range.{Range}
@@ -76,22 +76,10 @@ put-field k vs c = record { cursor = c; fields = set vs k (c .value) }
 
 -- The first n fields of thread i.
 unfoldable pub fields-from : List ℕ → ℕ → List Thread → ℕ → Cursor → ℕ → FieldsRead
-fields-from s d ths i c zero = record { cursor = c; fields = replicate 7 0 }
+fields-from s d ths i c zero = record { cursor = c; fields = replicate field-count 0 }
 fields-from s d ths i c (suc k) =
     put-field k (fields-from s d ths i c k .fields)
     (field-from s d ths i (fields-from s d ths i c k .fields) k (fields-from s d ths i c k .cursor))
-
--- The thread that has these fields.
-abbrev pub thread-of : List ℕ → Thread
-thread-of vs = record {
-  domain = getD vs 0 0;
-  priority = getD vs 1 0;
-  period = getD vs 2 0;
-  offset = getD vs 3 0;
-  budget = getD vs 4 0;
-  deadline = getD vs 5 0;
-  blocking = getD vs 6 0;
-}
 
 abbrev pub put-thread : ℕ → List Thread → FieldsRead → ThreadsRead
 put-thread i ths f = record { cursor = f .cursor; threads = set ths i (thread-of (f .fields)) }
@@ -101,7 +89,7 @@ unfoldable pub threads-from : List ℕ → ℕ → Cursor → ℕ → ThreadsRea
 threads-from s d c zero = record { cursor = c; threads = replicate 32 none }
 threads-from s d c (suc i) =
     put-thread i (threads-from s d c i .threads)
-    (fields-from s d (threads-from s d c i .threads) i (threads-from s d c i .cursor) 7)
+    (fields-from s d (threads-from s d c i .threads) i (threads-from s d c i .cursor) field-count)
 
 -- What reading gives: the number with its values, and the table, which is all zero on a refusal.
 pub record Read : Type 0 where

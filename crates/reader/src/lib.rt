@@ -3,6 +3,7 @@ ghost use mathlib.Core.Path.{_≡_};
 ghost use Rattle.reader.specs.Reader.{reading, read-of};
 use flow::Gap;
 use flow::first_gap;
+use table::FIELDS;
 use table::Range;
 use table::Table;
 use table::Thread;
@@ -30,7 +31,7 @@ pub struct RowsRead {
 
 pub struct FieldsRead {
     pub cursor: Cursor,
-    pub fields: [u16; 7],
+    pub fields: [u16; FIELDS],
 }
 
 pub struct ThreadsRead {

@@ -1,8 +1,8 @@
 // The parts of a table, each read with the cursor: rows, fields, threads, the end.
 ghost use mathlib.Core.Path.{_≡_};
-ghost use Prim.Native.Nat.{_≤_, _<_};
-ghost use lib.ListN.{getD};
-ghost use Rattle.reader.specs.Reader.{row-from, rows-from, free, field-from, fields-from, thread-of, threads-from, no-table, ended, read-of, told};
+ghost use Prim.Native.Nat.{_≤_};
+ghost use Rattle.table.specs.Threads.{field-count};
+ghost use Rattle.reader.specs.Reader.{row-from, rows-from, free, field-from, fields-from, threads-from, no-table, ended, read-of, told};
 use super::Cursor;
 use super::FieldsRead;
 use super::Reading;
@@ -13,10 +13,12 @@ use super::steps::judge;
 use super::steps::next_number;
 use super::steps::read_ranged;
 use flow::row_passes;
+use table::FIELDS;
 use table::Table;
 use table::Thread;
 use table::field_range;
 use table::is_taken;
+use table::make_thread;
 use table::no_thread;
 
 fn read_row(s: &[u8], domains: u8, i: u8, c: Cursor) -> Cursor
@@ -56,7 +58,7 @@ fn read_field(
     domains: u8,
     threads: [Thread; 32],
     i: u8,
-    fields: [u16; 7],
+    fields: [u16; FIELDS],
     k: u8,
     c: Cursor,
 ) -> Cursor
@@ -71,31 +73,15 @@ fn read_field(
 
 fn read_fields(s: &[u8], domains: u8, threads: [Thread; 32], i: u8, c: Cursor) -> FieldsRead
     requires { ⌜ i ≤ 32 ⌝ }
-    ensures { λ r. ⌜ r ≡ fields-from (now (s .entry)) domains threads i c 7 ⌝ }
+    ensures { λ r. ⌜ r ≡ fields-from (now (s .entry)) domains threads i c field-count ⌝ }
 {
-    let mut fields = [0u16; 7];
+    let mut fields = [0u16; FIELDS];
     let mut at = c;
-    for k in 0..7u8 {
+    for k in 0..FIELDS as u8 {
         at = read_field(s, domains, threads, i, fields, k, at);
         fields[k as usize] = at.value;
     }
     FieldsRead { cursor: at, fields }
-}
-
-// The thread that has these fields.
-fn make_thread(fields: [u16; 7]) -> Thread
-    requires { ⌜ (getD fields 0 0 < 256) × (getD fields 1 0 < 256) ⌝ }
-    ensures { λ r. ⌜ r ≡ thread-of fields ⌝ }
-{
-    Thread {
-        domain: fields[0] as u8,
-        priority: fields[1] as u8,
-        period: fields[2],
-        offset: fields[3],
-        budget: fields[4],
-        deadline: fields[5],
-        blocking: fields[6],
-    }
 }
 
 fn read_threads(s: &[u8], domains: u8, c: Cursor, count: u8) -> ThreadsRead

@@ -9,7 +9,7 @@ use Rattle.basis.specs.Tests.{pick, and, every, some}
 use Rattle.basis.specs.Search.{Sought, nothing, found}
 use Rattle.flow.specs.Flow.{flows, row-ok}
 use Rattle.flow.specs.Gap.{Triple, first-gap}
-use Rattle.table.specs.Threads.{none, thread, fields}
+use Rattle.table.specs.Threads.{field-count, none, thread, fields}
 use Rattle.table.specs.Ranges.{domain-counts, thread-counts, within, field-range}
 use Rattle.table.specs.declared.Table.{Table}
 use Rattle.table.specs.declared.Thread.{Thread}
@@ -28,14 +28,14 @@ field-ok d vs k = within (field-range d vs k) (getD vs k 0)
 
 -- Each field of a thread is in its range.
 unfoldable pub thread-ok : ℕ → Thread → Bool
-thread-ok d th = every 7 (field-ok d (fields th))
+thread-ok d th = every field-count (field-ok d (fields th))
 
 unfoldable pub field-zero : List ℕ → ℕ → Bool
 field-zero vs k = eqb (getD vs k 0) 0
 
 -- Each field of a thread is zero.
 unfoldable pub thread-zero : Thread → Bool
-thread-zero th = every 7 (field-zero (fields th))
+thread-zero th = every field-count (field-zero (fields th))
 
 -- One of the first n threads has the priority p.
 unfoldable pub taken : List Thread → ℕ → ℕ → Bool

@@ -22,7 +22,7 @@ domain-counts = range 1 17
 abbrev pub thread-counts : Range
 thread-counts = range 1 33
 
--- The ranges of a thread's seven fields in a table of d domains, by its period and its budget.
+-- The ranges of a thread's fields in a table of d domains, by its period and its budget.
 unfoldable pub field-ranges : ℕ → ℕ → ℕ → List Range
 field-ranges d period budget =
     range 0 d  -- domain: 0 to domains - 1

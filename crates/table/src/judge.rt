@@ -4,10 +4,11 @@ ghost use Prim.Native.Nat.{_≤_, _<_};
 ghost use mathlib.Core.Bool.{not};
 ghost use Rattle.basis.specs.Tests.{pick, and, every};
 ghost use Rattle.table.specs.Legal.{row-legal, thread-ok, thread-zero, taken, place-legal, legal};
+use super::FIELDS;
 use super::Range;
 use super::Table;
 use super::Thread;
-use super::ranges::field_range;
+use super::ranges::field_ranges;
 use super::ranges::fields;
 use super::ranges::in_range;
 use flow::Gap;
@@ -32,9 +33,10 @@ fn thread_passes(domains: u8, th: Thread) -> bool
     ensures { λ r. ⌜ r ≡ thread-ok domains th ⌝ }
 {
     let vs = fields(th);
-    for k in 0..7u8 {
-        let range = field_range(domains, vs, k);
-        if !in_range(range, vs[k as usize]) {
+    let ranges = field_ranges(domains, th.period, th.budget);
+    for k in 0..FIELDS {
+        let range = ranges[k];
+        if !in_range(range, vs[k]) {
             return false;
         }
     }
@@ -45,8 +47,8 @@ fn thread_is_zero(th: Thread) -> bool
     ensures { λ r. ⌜ r ≡ thread-zero th ⌝ }
 {
     let vs = fields(th);
-    for k in 0..7u8 {
-        if vs[k as usize] != 0 {
+    for k in 0..FIELDS {
+        if vs[k] != 0 {
             return false;
         }
     }

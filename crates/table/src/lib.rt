@@ -12,7 +12,11 @@ pub use mark::mark_all;
 pub use ranges::field_range;
 pub use ranges::fields;
 pub use ranges::in_range;
+pub use ranges::make_thread;
 pub use ranges::no_thread;
+
+// How many fields a thread has.
+pub const FIELDS: usize = 7;
 
 pub struct Thread {
     pub domain: u8,

@@ -1,8 +1,8 @@
 // The range of each number of a table, said once for the reader and for the test of a table that is handed in.
 ghost use mathlib.Core.Path.{_≡_};
-ghost use Prim.Native.Nat.{_+_};
-ghost use Rattle.table.specs.Threads.{none, fields as the-fields};
-ghost use Rattle.table.specs.Ranges.{range, within, field-range};
+ghost use Rattle.table.specs.Threads.{none, fields as the-fields, thread-of, Narrow};
+ghost use Rattle.table.specs.Ranges.{within, field-range, field-ranges};
+use super::FIELDS;
 use super::Range;
 use super::Thread;
 
@@ -15,23 +15,8 @@ pub fn in_range(r: Range, v: u16) -> bool
     false
 }
 
-// What stands in a thread place that is not in use.
-pub fn no_thread() -> Thread
-    ensures { λ r. ⌜ r ≡ none ⌝ }
-{
-    Thread {
-        domain: 0,
-        priority: 0,
-        period: 0,
-        offset: 0,
-        budget: 0,
-        deadline: 0,
-        blocking: 0,
-    }
-}
-
-// A thread's seven fields, in order.
-pub fn fields(th: Thread) -> [u16; 7]
+// A thread's fields, in order.
+pub fn fields(th: Thread) -> [u16; FIELDS]
     ensures { λ r. ⌜ r ≡ the-fields th ⌝ }
 {
     [
@@ -45,33 +30,70 @@ pub fn fields(th: Thread) -> [u16; 7]
     ]
 }
 
-fn make_range(low: u16, below: u32) -> Range
-    ensures { λ r. ⌜ r ≡ range low below ⌝ }
+// The thread that has these fields.
+pub fn make_thread(fields: [u16; FIELDS]) -> Thread
+    requires { ⌜ Narrow fields ⌝ }
+    ensures { λ r. ⌜ r ≡ thread-of fields ⌝ }
 {
-    Range { low, below }
+    Thread {
+        domain: fields[0] as u8,
+        priority: fields[1] as u8,
+        period: fields[2],
+        offset: fields[3],
+        budget: fields[4],
+        deadline: fields[5],
+        blocking: fields[6],
+    }
 }
 
-// The limit below which a number is at most v.
-fn up_to(v: u16) -> u32
-    ensures { λ r. ⌜ r ≡ v + 1 ⌝ }
+// What stands in a thread place that is not in use.
+pub fn no_thread() -> Thread
+    ensures { λ r. ⌜ r ≡ none ⌝ }
 {
-    v as u32 + 1
+    make_thread([0; FIELDS])
+}
+
+// The range of each field in a table of so many domains, by the thread's period and its budget.
+pub fn field_ranges(domains: u8, period: u16, budget: u16) -> [Range; FIELDS]
+    ensures { λ r. ⌜ r ≡ field-ranges domains period budget ⌝ }
+{
+    let after_period = period as u32 + 1;
+    [
+        Range {
+            low: 0,
+            below: domains as u32,
+        },
+        Range { low: 0, below: 256 },
+        Range {
+            low: 1,
+            below: 60001,
+        },
+        Range {
+            low: 0,
+            below: period as u32,
+        },
+        Range {
+            low: 1,
+            below: after_period,
+        },
+        Range {
+            low: budget,
+            below: after_period,
+        },
+        Range {
+            low: 0,
+            below: budget as u32 + 1,
+        },
+    ]
 }
 
 // The range of field k in a table of so many domains, by the fields before it.
-pub fn field_range(domains: u8, fields: [u16; 7], k: u8) -> Range
+pub fn field_range(domains: u8, fields: [u16; FIELDS], k: u8) -> Range
     ensures { λ r. ⌜ r ≡ field-range domains fields k ⌝ }
 {
-    let period = fields[2];
-    let budget = fields[4];
-    match k {
-        0 => make_range(0, domains as u32),
-        1 => make_range(0, 256),
-        2 => make_range(1, 60001),
-        3 => make_range(0, period as u32),
-        4 => make_range(1, up_to(period)),
-        5 => make_range(budget, up_to(period)),
-        6 => make_range(0, up_to(budget)),
-        _ => make_range(0, 0),
+    let ranges = field_ranges(domains, fields[2], fields[4]);
+    if (k as usize) < FIELDS {
+        return ranges[k as usize];
     }
+    Range { low: 0, below: 0 }
 }

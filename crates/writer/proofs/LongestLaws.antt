@@ -45,8 +45,11 @@ rows-most rows (suc n) =
     = rw add-one at (rows-length rows n) in
     omega (arith, e, rows-most rows n, at-most-three (getD rows n 0))
 
--- Domain 1, priority 2, the five others 3 each.
-thread-most : (d : ℕ) (th : Thread) → d ≤ 16 → Legal-thread d th → length (encode-all (fields th)) ≤ 18
+-- The most bytes that a thread takes: domain 1, priority 2, the others 3 each.
+abbrev most-bytes : ℕ
+most-bytes = 18
+
+thread-most : (d : ℕ) (th : Thread) → d ≤ 16 → Legal-thread d th → length (encode-all (fields th)) ≤ most-bytes
 unfolding encode-all
 thread-most d th h g =
     simp length-append
@@ -62,7 +65,7 @@ thread-most d th h g =
     ))
 
 threads-most : (ths : List Thread) (d n : ℕ) → d ≤ 16 → ((i : ℕ) → i < n → Legal-thread d (getD ths i none))
-    → length (encode-all (thread-numbers ths n)) ≤ 18 * n
+    → length (encode-all (thread-numbers ths n)) ≤ most-bytes * n
 unfolding thread-numbers encode-all
 threads-most ths d zero h g = omega arith
 threads-most ths d (suc n) h g =

@@ -12,7 +12,7 @@ use Rattle.numeral.specs.Number.{encode-all}
 unfoldable pub row-numbers : List ℕ → ℕ → List ℕ
 row-numbers rows n = listed n (λ i. getD rows i 0)
 
--- Seven numbers for each of n threads.
+-- The fields of each of n threads.
 unfoldable pub thread-numbers : List Thread → ℕ → List ℕ
 thread-numbers ths zero = []
 thread-numbers ths (suc i) = thread-numbers ths i ++ fields (getD ths i none)

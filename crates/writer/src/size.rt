@@ -1,10 +1,11 @@
 // How many bytes a table takes.
 ghost use mathlib.Core.Path.{_≡_};
-ghost use Prim.Native.Nat.{_≤_};
+ghost use Prim.Native.Nat.{_*_, _≤_};
 ghost use lib.ListN.{length};
-ghost use Rattle.table.specs.Threads.{fields as the-fields};
+ghost use Rattle.table.specs.Threads.{field-count, fields as the-fields};
 ghost use Rattle.numeral.specs.Number.{encode, encode-all};
 ghost use Rattle.writer.specs.Format.{row-numbers, thread-numbers, bytes};
+use table::FIELDS;
 use table::Table;
 use table::Thread;
 use table::fields;
@@ -22,11 +23,11 @@ fn number_size(v: u16) -> usize
 }
 
 fn thread_size(th: Thread) -> usize
-    ensures { λ r. ⌜ (r ≡ length (encode-all (the-fields th))) × (r ≤ 21) ⌝ }
+    ensures { λ r. ⌜ (r ≡ length (encode-all (the-fields th))) × (r ≤ 3 * field-count) ⌝ }
 {
     let vs = fields(th);
     let mut k = 0;
-    for i in 0..7usize {
+    for i in 0..FIELDS {
         k += number_size(vs[i]);
     }
     k
@@ -45,7 +46,7 @@ fn rows_size(rows: [u16; 16], n: u8) -> usize
 
 fn threads_size(threads: [Thread; 32], n: u8) -> usize
     requires { ⌜ n ≤ 32 ⌝ }
-    ensures { λ r. ⌜ (r ≡ length (encode-all (thread-numbers threads n))) × (r ≤ 672) ⌝ }
+    ensures { λ r. ⌜ (r ≡ length (encode-all (thread-numbers threads n))) × (r ≤ 32 * (3 * field-count)) ⌝ }
 {
     let mut k = 0;
     for i in 0..n {

@@ -1,6 +1,5 @@
 -- An accepted table is legal, so it has 1 to 32 threads.
 use mathlib.Core.Path.{_≡_, sym}
-use native.Mathlib.Omega.{arith}
 use Rattle.reader.specs.Reader.{accepted, reading}
 use Rattle.codec.proofs.RoundTrip.{accepted-exactly}
 use borrow.Author.Needs.{needs}
@@ -16,8 +15,8 @@ enum-told c = search needs
 run-requires : tie.Need-run-requires
 run-requires c κs = let s = c .before .before .before .before .before .args .bytes .now in
     let r = c .before .before .before .read in
-    let e : accepted (r .result .table) ≡ reading s = rw (c .enum-told .given .1) at (r .ensures) in
-    let l = accepted-exactly s (λ i. omega (arith, c .before .before .before .before .shared-slice-known .given i)) (r .result .table) .0 (sym e) .0 in
+    let e : accepted (r .result .table) ≡ reading s = rw (c .enum-told .given .1) at (r .ensures .0) in
+    let l = accepted-exactly s (r .ensures .1) (r .result .table) .0 (sym e) .0 in
     (l .count-low, l .count-high)
 
 enum-known-v : tie.Need-enum-known-v

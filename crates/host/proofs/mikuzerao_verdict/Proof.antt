@@ -17,7 +17,7 @@ number-of-requires c κs = search needs
 
 returns : tie.Need-returns
 unfolding verdict
-returns c = c .number-of .ensures .0 ∙ ap (λ (r : Read). r .told .number) (c .before .read .ensures)
+returns c = (c .number-of .ensures .0 ∙ ap (λ (r : Read). r .told .number) (c .before .read .ensures .0), c .before .read .ensures .1)
 
 pub mikuzerao-verdict-spec : {M : Type 1} → statement M
 mikuzerao-verdict-spec = tie.close (tie.spec read-requires number-of-requires returns)

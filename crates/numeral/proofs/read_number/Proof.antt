@@ -1,4 +1,5 @@
 use Rattle.numeral.specs.Number.{number, number-at}
+use Rattle.numeral.proofs.NumberLaws.{held-bytes}
 use Rattle.basis.specs.Tests.{pick}
 use Rattle.basis.proofs.ListLaws.{drop-some}
 use lib.ListN.{drop-of-length-le}
@@ -13,7 +14,7 @@ use Rattle.numeral.proofs.wide.Reads as wide-reads
 
 returns : tie.Need-returns
 unfolding number-at number pick
-returns c = rw (drop-of-length-le _ (c .if1 .taken))
+returns c = (rw (drop-of-length-le _ (c .if1 .taken)), held-bytes (c .before .shared-slice-known .given))
 
 shared-slice-read-wide : tie.Need-shared-slice-read-wide
 shared-slice-read-wide c = search needs
@@ -29,7 +30,10 @@ add-t9 c = search needs
 
 returns-2 : tie.Need-returns-2
 unfolding number-at number pick
-returns-2 c = rw (drop-some _ _ _ (c .before .wide .ensures .0) (c .before .before .before .if1 .left), lt-ltb _ _ (c .if2 .taken))
+returns-2 c = (
+  rw (drop-some _ _ _ (c .before .wide .ensures .0) (c .before .before .before .if1 .left), lt-ltb _ _ (c .if2 .taken)),
+  held-bytes (c .before .before .shared-slice-known2 .given),
+)
 
 add-second-byte : tie.Need-add-second-byte
 add-second-byte c = search needs
@@ -39,7 +43,10 @@ second-byte-requires c κs = search needs
 
 returns-3 : tie.Need-returns-3
 unfolding number-at number pick
-returns-3 c = rw (drop-some _ _ _ (c .before .before .wide .ensures .0) (c .before .before .before .before .if1 .left), le-ltb _ _ (c .before .if2 .left)) (c .second-byte .ensures)
+returns-3 c = (
+  rw (drop-some _ _ _ (c .before .before .wide .ensures .0) (c .before .before .before .before .if1 .left), le-ltb _ _ (c .before .if2 .left)) (c .second-byte .ensures),
+  held-bytes (c .before .before .before .shared-slice-known2 .given),
+)
 
 pub read-number-spec : {M : Type 1} → statement M
 read-number-spec =

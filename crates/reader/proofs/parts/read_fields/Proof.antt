@@ -1,4 +1,5 @@
 use Rattle.reader.proofs.ReaderLaws.{fields-next}
+use Rattle.table.specs.Threads.{field-count}
 use Rattle.reader.specs.Reader.{fields-from}
 use native.Mathlib.Omega.{arith}
 use mathlib.Core.Path.{_≡_, refl}
@@ -11,10 +12,10 @@ use Rattle.reader.proofs.parts.read_fields.Lts as lts
 use Rattle.reader.proofs.parts.read_field.Reads as read-field-reads
 
 abbrev Inv-loop : tie.InvT-loop
-Inv-loop s domains threads i fields₀ at₀ k₀ fields at k = (k ≤ 7) × (record { cursor = at; fields = fields } ≡ fields-from s domains threads i at₀ k)
+Inv-loop s domains threads i fields₀ at₀ k₀ fields at k = (k ≤ field-count) × (record { cursor = at; fields = fields } ≡ fields-from s domains threads i at₀ k)
 
 abbrev μ-loop : tie.MeasureT-loop
-μ-loop s domains threads i fields₀ at₀ k₀ fields at k = 7 - k
+μ-loop s domains threads i fields₀ at₀ k₀ fields at k = field-count - k
 
 loop-holds : tie.Need-loop-holds Inv-loop μ-loop
 unfolding fields-from
@@ -42,7 +43,7 @@ loop-again : tie.Need-loop-again Inv-loop μ-loop
 loop-again c = (omega arith, fields-next _ _ _ _ _ _ _ _ _ (c .before .before .loop .inv .1) (c .read-field .ensures))
 
 returns : tie.Need-returns Inv-loop μ-loop
-returns c = let e : c .before .loop .k ≡ 7 = omega arith in rw e at (c .before .loop .inv .1)
+returns c = let e : c .before .loop .k ≡ field-count = omega arith in rw e at (c .before .loop .inv .1)
 
 pub read-fields-spec : {M : Type 1} → statement M
 read-fields-spec =

@@ -8,8 +8,8 @@ use Rattle.reader.proofs.parts.read_threads.Statement.{statement}
 use Rattle.reader.proofs.parts.read_threads.Tie as tie
 use Rattle.reader.proofs.parts.read_threads.Reads as reads
 use Rattle.reader.proofs.parts.read_threads.Lts as lts
-use Rattle.reader.proofs.parts.make_thread.Reads as make-thread-reads
 use Rattle.reader.proofs.parts.read_fields.Reads as read-fields-reads
+use Rattle.table.proofs.make_thread.Reads as make-thread-reads
 use Rattle.table.proofs.no_thread.Reads as no-thread-reads
 
 abbrev Inv-loop : tie.InvT-loop

@@ -32,11 +32,11 @@ refuse-requires-2 c κs = search needs
 
 returns-2 : tie.Need-returns-2
 unfolding number-from pick
-returns-2 c = rw (eq-eqb _ _ (c .before .before .before .before .if1 .left), sym (c .before .before .before .read-number .ensures) ∙ c .before .n .given .1)
+returns-2 c = rw (eq-eqb _ _ (c .before .before .before .before .if1 .left), sym (c .before .before .before .read-number .ensures .0) ∙ c .before .n .given .1)
 
 returns-3 : tie.Need-returns-3
 unfolding number-from pick
-returns-3 c = rw (eq-eqb _ _ (c .before .before .before .before .before .if1 .left), sym (c .before .before .before .before .read-number .ensures) ∙ c .before .before .n2 .given .1) (c .refuse2 .ensures)
+returns-3 c = rw (eq-eqb _ _ (c .before .before .before .before .before .if1 .left), sym (c .before .before .before .before .read-number .ensures .0) ∙ c .before .before .n2 .given .1) (c .refuse2 .ensures)
 
 pub next-number-spec : {M : Type 1} → statement M
 next-number-spec =

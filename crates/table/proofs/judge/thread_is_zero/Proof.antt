@@ -1,3 +1,4 @@
+use Rattle.table.specs.Threads.{field-count}
 use Rattle.table.specs.Legal.{field-zero, thread-zero}
 use Rattle.basis.proofs.TestLaws.{every-none, every-next, every-fails, every-end}
 use Rattle.basis.specs.Tests.{every}
@@ -13,19 +14,16 @@ use Rattle.table.proofs.judge.thread_is_zero.Lts as lts
 use Rattle.table.proofs.ranges.fields.Reads as fields-reads
 
 abbrev Inv-loop : tie.InvT-loop
-Inv-loop vs k₀ k = (k ≤ 7) × (every k (field-zero vs) ≡ true)
+Inv-loop vs k₀ k = (k ≤ field-count) × (every k (field-zero vs) ≡ true)
 
 abbrev μ-loop : tie.MeasureT-loop
-μ-loop vs k₀ k = 7 - k
+μ-loop vs k₀ k = field-count - k
 
 fields-requires : tie.Need-fields-requires Inv-loop μ-loop
 fields-requires c κs = search needs
 
 loop-holds : tie.Need-loop-holds Inv-loop μ-loop
 loop-holds c = (search needs, every-none _)
-
-cast-if1 : tie.Need-cast-if1 Inv-loop μ-loop
-cast-if1 c = search needs
 
 mul-if1 : tie.Need-mul-if1 Inv-loop μ-loop
 mul-if1 c = search needs
@@ -35,7 +33,7 @@ array-read-if1 c = search needs
 
 returns : tie.Need-returns Inv-loop μ-loop
 unfolding thread-zero field-zero
-returns c = let s = c .before .before .before in rw (← s .fields .ensures) (sym (every-fails (field-zero (s .fields .result)) _ 7 (ne-eqb _ _ (c .if1 .taken)) (c .before .loop-test .taken)))
+returns c = let s = c .before .before .before in rw (← s .fields .ensures) (sym (every-fails (field-zero (s .fields .result)) _ field-count (ne-eqb _ _ (c .if1 .taken)) (c .before .loop-test .taken)))
 
 add-k : tie.Need-add-k Inv-loop μ-loop
 add-k c = search needs
@@ -59,7 +57,6 @@ thread-is-zero-spec =
     μ-loop
     fields-requires
     loop-holds
-    cast-if1
     mul-if1
     array-read-if1
     returns

@@ -1,36 +1,51 @@
+use Rattle.table.specs.Threads.{field-count, fields}
+use Rattle.table.specs.Ranges.{range, within, field-range, field-ranges}
+use Rattle.table.specs.declared.Range.{Range}
+use Rattle.table.specs.declared.Thread.{Thread}
 use Rattle.table.specs.Legal.{field-ok, thread-ok}
 use Rattle.basis.proofs.TestLaws.{every-none, every-next, every-fails, every-end}
 use Rattle.basis.specs.Tests.{every}
 use borrow.Author.Tests.{not-true, not-false}
-use mathlib.Core.Bool.{true}
+use mathlib.Core.Bool.{Bool, true}
+use mathlib.Core.List.{List}
+use lib.ListN.{getD}
 use mathlib.Core.Path.{_≡_, sym, _∙_, ap}
-use Prim.Native.Nat.{_≤_, _-_}
+use Prim.Native.Nat.{ℕ, _≤_, _-_}
 use borrow.Author.Needs.{needs}
 use Rattle.table.proofs.judge.thread_passes.Statement.{statement}
 use Rattle.table.proofs.judge.thread_passes.Tie as tie
 use Rattle.table.proofs.judge.thread_passes.Reads as reads
 use Rattle.table.proofs.judge.thread_passes.Lts as lts
-use Rattle.table.proofs.ranges.field_range.Reads as field-range-reads
+use Rattle.table.proofs.ranges.field_ranges.Reads as field-ranges-reads
 use Rattle.table.proofs.ranges.fields.Reads as fields-reads
 use Rattle.table.proofs.ranges.in_range.Reads as in-range-reads
 
+-- The test of field k, by the ranges of a thread that has these fields.
+field-test : (d : ℕ) (th : Thread) (vs : List ℕ) (ranges : List Range) (k : ℕ) (b : Bool) → vs ≡ fields th
+    → ranges ≡ field-ranges d (th .period) (th .budget) → within (getD ranges k (range 0 0)) (getD vs k 0) ≡ b → field-ok d vs k ≡ b
+unfolding field-ok field-range
+field-test d th vs ranges k b e f g = rw (← g, f, e)
+
 abbrev Inv-loop : tie.InvT-loop
-Inv-loop domains vs k₀ k = (k ≤ 7) × (every k (field-ok domains vs) ≡ true)
+Inv-loop domains vs ranges k₀ k = (k ≤ field-count) × (every k (field-ok domains vs) ≡ true)
 
 abbrev μ-loop : tie.MeasureT-loop
-μ-loop domains vs k₀ k = 7 - k
+μ-loop domains vs ranges k₀ k = field-count - k
 
 fields-requires : tie.Need-fields-requires Inv-loop μ-loop
 fields-requires c κs = search needs
 
+field-ranges-requires : tie.Need-field-ranges-requires Inv-loop μ-loop
+field-ranges-requires c κs = search needs
+
 loop-holds : tie.Need-loop-holds Inv-loop μ-loop
 loop-holds c = (search needs, every-none _)
 
-field-range-requires : tie.Need-field-range-requires Inv-loop μ-loop
-field-range-requires c κs = search needs
+mul-range : tie.Need-mul-range Inv-loop μ-loop
+mul-range c = search needs
 
-cast-in-range : tie.Need-cast-in-range Inv-loop μ-loop
-cast-in-range c = search needs
+array-copy-out-range : tie.Need-array-copy-out-range Inv-loop μ-loop
+array-copy-out-range c = search needs
 
 mul-in-range : tie.Need-mul-in-range Inv-loop μ-loop
 mul-in-range c = search needs
@@ -42,8 +57,13 @@ in-range-requires : tie.Need-in-range-requires Inv-loop μ-loop
 in-range-requires c κs = search needs
 
 returns : tie.Need-returns Inv-loop μ-loop
-unfolding thread-ok field-ok
-returns c = let s = c .before .before .before .before .before in rw (← s .fields .ensures) (sym (every-fails (field-ok (s .before .args .domains) (s .fields .result)) _ 7 (rw (← c .before .before .field-range .ensures) (sym (c .before .in-range .ensures) ∙ not-true _ (c .if1 .taken))) (c .before .before .before .loop-test .taken)))
+unfolding thread-ok
+returns c =
+    let s = c .before .before .before .before .before in
+    rw (← s .before .fields .ensures)
+    (sym (every-fails (field-ok (s .before .before .args .domains) (s .before .fields .result)) _ field-count
+    (field-test _ _ _ _ _ _ (s .before .fields .ensures) (s .field-ranges .ensures) (sym (c .before .in-range .ensures) ∙ not-true _ (c .if1 .taken)))
+    (c .before .before .before .loop-test .taken)))
 
 add-k : tie.Need-add-k Inv-loop μ-loop
 add-k c = search needs
@@ -52,12 +72,16 @@ loop-less : tie.Need-loop-less Inv-loop μ-loop
 loop-less c = search needs
 
 loop-again : tie.Need-loop-again Inv-loop μ-loop
-unfolding field-ok
-loop-again c = (search needs, every-next _ _ (c .before .before .before .before .loop .inv .1) (rw (← c .before .before .field-range .ensures) (sym (c .before .in-range .ensures) ∙ not-false _ (c .if1 .left))))
+loop-again c =
+    let s = c .before .before .before .before .before in (
+      search needs,
+      every-next _ _ (c .before .before .before .before .loop .inv .1)
+          (field-test _ _ _ _ _ _ (s .before .fields .ensures) (s .field-ranges .ensures) (sym (c .before .in-range .ensures) ∙ not-false _ (c .if1 .left))),
+    )
 
 returns-2 : tie.Need-returns-2 Inv-loop μ-loop
 unfolding thread-ok
-returns-2 c = rw (← c .before .before .fields .ensures) (sym (every-end _ _ _ (c .before .loop .inv .1) (c .before .loop .inv .0) (c .loop-test .left)))
+returns-2 c = rw (← c .before .before .before .fields .ensures) (sym (every-end _ _ _ (c .before .loop .inv .1) (c .before .loop .inv .0) (c .loop-test .left)))
 
 pub thread-passes-spec : {M : Type 1} → statement M
 thread-passes-spec =
@@ -66,9 +90,10 @@ thread-passes-spec =
     Inv-loop
     μ-loop
     fields-requires
+    field-ranges-requires
     loop-holds
-    field-range-requires
-    cast-in-range
+    mul-range
+    array-copy-out-range
     mul-in-range
     array-read-in-range
     in-range-requires

@@ -1,4 +1,4 @@
--- A thread is put as its seven fields, which `fields` gives.
+-- A thread is put as its fields, which `fields` gives.
 use borrow.Author.Needs.{needs}
 use Rattle.writer.proofs.put.write_thread.Statement.{statement}
 use Rattle.writer.proofs.put.write_thread.Tie as tie

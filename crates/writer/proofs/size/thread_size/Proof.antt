@@ -1,9 +1,9 @@
--- The sizes of the seven fields add up as their bytes join.
+-- The sizes of the fields add up as their bytes join.
 use Prim.Native.Nat.{_*_, _≤_, _<_, _-_}
 use mathlib.Core.Path.{_≡_, refl, ap}
 use native.Mathlib.Omega.{arith}
 use lib.ListN.{length, take}
-use Rattle.table.specs.Threads.{fields}
+use Rattle.table.specs.Threads.{field-count, fields}
 use Rattle.numeral.specs.Number.{encode-all}
 use Rattle.writer.proofs.WriterLaws.{numbers-length}
 use borrow.Author.Needs.{needs}
@@ -11,10 +11,10 @@ use Rattle.writer.proofs.size.thread_size.Statement.{statement}
 use Rattle.writer.proofs.size.thread_size.Tie as tie
 
 abbrev Inv-loop : tie.InvT-loop
-Inv-loop vs k₀ i₀ k i = (i ≤ 7) × (k ≡ length (encode-all (take i vs))) × (k ≤ 3 * i)
+Inv-loop vs k₀ i₀ k i = (i ≤ field-count) × (k ≡ length (encode-all (take i vs))) × (k ≤ 3 * i)
 
 abbrev μ-loop : tie.MeasureT-loop
-μ-loop vs k₀ i₀ k i = 7 - i
+μ-loop vs k₀ i₀ k i = field-count - i
 
 fields-requires : tie.Need-fields-requires Inv-loop μ-loop
 fields-requires c κs = search needs
@@ -48,8 +48,8 @@ loop-again c =
 
 returns : tie.Need-returns Inv-loop μ-loop
 returns c =
-    let e : c .before .loop .i ≡ 7 = omega arith in
-    let q : take 7 (c .before .before .fields .result) ≡ fields (c .before .before .before .args .th) = rw (c .before .before .fields .ensures) in
+    let e : c .before .loop .i ≡ field-count = omega arith in
+    let q : take field-count (c .before .before .fields .result) ≡ fields (c .before .before .before .args .th) = rw (c .before .before .fields .ensures) in
     (rw (e, q) at (c .before .loop .inv .1), omega arith)
 
 pub thread-size-spec : {M : Type 1} → statement M

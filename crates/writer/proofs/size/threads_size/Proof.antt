@@ -3,6 +3,7 @@ use Prim.Native.Nat.{_*_, _≤_, _-_}
 use mathlib.Core.Path.{_≡_, refl}
 use native.Mathlib.Omega.{arith}
 use lib.ListN.{length}
+use Rattle.table.specs.Threads.{field-count}
 use Rattle.numeral.specs.Number.{encode-all}
 use Rattle.writer.specs.Format.{thread-numbers}
 use Rattle.writer.proofs.WriterLaws.{threads-length}
@@ -11,7 +12,7 @@ use Rattle.writer.proofs.size.threads_size.Statement.{statement}
 use Rattle.writer.proofs.size.threads_size.Tie as tie
 
 abbrev Inv-loop : tie.InvT-loop
-Inv-loop n threads k₀ i₀ k i = (i ≤ n) × (k ≡ length (encode-all (thread-numbers threads i))) × (k ≤ 21 * i)
+Inv-loop n threads k₀ i₀ k i = (i ≤ n) × (k ≡ length (encode-all (thread-numbers threads i))) × (k ≤ 3 * field-count * i)
 
 abbrev μ-loop : tie.MeasureT-loop
 μ-loop n threads k₀ i₀ k i = n - i
