@@ -1,8 +1,10 @@
 -- Each number of what a domain is shown is given exactly when its row holds, by asking the tests in turn.
-use Prim.Native.Nat.{ℕ}
+use Prim.Native.Nat.{ℕ, _<_}
 use mathlib.Core.Path.{_≡_, refl}
 use mathlib.Core.Logic.{_↔_}
 use mathlib.Core.Bool.{true, false}
+use native.Mathlib.Omega.{arith}
+use lib.ListN.{replicate}
 use lib.Dec.{ltb}
 use borrow.Author.Tests.{ltb-true, ltb-false, lt-ltb, le-ltb}
 use Rattle.basis.specs.Tests.{pick}
@@ -11,11 +13,11 @@ use Rattle.basis.proofs.TestLaws.{by-test, both-ways}
 use Rattle.basis.proofs.BackLaws.{exactly-by, row-here}
 use Rattle.table.specs.Legal.{legal}
 use Rattle.table.specs.declared.Table.{Table}
-use Rattle.state.specs.State.{fits}
+use Rattle.state.specs.State.{no-progress, fits}
 use Rattle.state.specs.declared.State.{State}
 use Rattle.walk.specs.declared.Answer.{Answer}
 use Rattle.walk.specs.declared.Answer.the-variants.{Ran, IdleFor, Idle}
-use Rattle.sight.specs.Shown.{view, showing, showing-state}
+use Rattle.sight.specs.Shown.{view, showing, showing-state, threads-shown}
 use Rattle.sight.specs.Numbered.{View-numbered, not-legal, no-domain, shows, State-numbered, illegal, misfit, lacks-domain, shows-state}
 
 -- A thread or a gap is no refusal.
@@ -67,3 +69,14 @@ module _ (t : Table) (s : State) (d : ℕ) where
 
   pub state-number-exactly : (n : ℕ) → (showing-state t s d .number ≡ n) ↔ State-numbered t s d n
   state-number-exactly = exactly-by (State-numbered t s d) state-given (λ n r. state-only r)
+
+-- A refused domain is shown zeros.
+pub refused-zeros : (t : Table) (s : State) (d : ℕ) → 0 < showing-state t s d .number → threads-shown t s d ≡ replicate 32 no-progress
+unfolding threads-shown pick
+refused-zeros t s d h = zeros (state-given t s d) refl
+  where
+    zeros : {n : ℕ} → State-numbered t s d n → showing-state t s d .number ≡ n → threads-shown t s d ≡ replicate 32 no-progress
+    zeros (illegal l) e = rw l
+    zeros (misfit l f) e = rw (l, f)
+    zeros (lacks-domain l f k) e = rw (l, f, le-ltb _ _ k)
+    zeros (shows-state l f k) e = absurd (omega arith)
