@@ -8,8 +8,8 @@ use dice::below8;
 use dice::seldom;
 use same::same_state;
 use scheduler::Answer;
-use sight::Showing;
 use scheduler::State;
+use sight::Showing;
 use sight::View;
 use table::Table;
 

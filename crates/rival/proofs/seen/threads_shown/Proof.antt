@@ -1,8 +1,8 @@
 -- `rival::sight::threads_shown` is safe and ends: i counts up to 32.
 use Prim.Native.Nat.{_-_}
 use borrow.Author.Needs.{needs}
-use Rattle.rival.proofs.sight.threads_shown.Statement.{statement}
-use Rattle.rival.proofs.sight.threads_shown.Tie as tie
+use Rattle.rival.proofs.seen.threads_shown.Statement.{statement}
+use Rattle.rival.proofs.seen.threads_shown.Tie as tie
 
 abbrev Inv-loop : tie.InvT-loop
 Inv-loop t domain refused none threads₀ i₀ threads i = Unit {0}

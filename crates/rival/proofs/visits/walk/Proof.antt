@@ -1,8 +1,8 @@
 -- `rival::walk::walk` is safe and ends: k counts up to 32.
 use Prim.Native.Nat.{_-_}
 use borrow.Author.Needs.{needs}
-use Rattle.rival.proofs.walk.walk.Statement.{statement}
-use Rattle.rival.proofs.walk.walk.Tie as tie
+use Rattle.rival.proofs.visits.walk.Statement.{statement}
+use Rattle.rival.proofs.visits.walk.Tie as tie
 
 abbrev Inv-loop : tie.InvT-loop
 Inv-loop bytes by-priority marks now₀ k₀ now k = Unit {0}
