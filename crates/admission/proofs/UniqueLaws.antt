@@ -4,6 +4,7 @@ use mathlib.Core.Path.{_≡_, refl, sym, _∙_, ap}
 use mathlib.Core.List.{List, [], _∷_}
 use lib.Dec.{eqb}
 use Rattle.basis.specs.Tests.{pick}
+use Rattle.basis.proofs.BackLaws.{undone}
 use Rattle.table.specs.declared.Table.{Table}
 use Rattle.admission.specs.declared.Bound.{Bound}
 use Rattle.admission.specs.declared.Bound.the-variants.{Within, None, NotLegal, NoThread}
@@ -15,10 +16,6 @@ use Rattle.admission.specs.declared.ProhibitionTime.the-variants.{Steps,
 use Rattle.admission.specs.Bounded.{told, bounding}
 use Rattle.admission.specs.Admit.{told as told-admitting, admitting, bounds-given}
 use Rattle.admission.specs.Prohibition.{told as told-time, prohibiting}
-
--- A map that can be undone tells its arguments apart.
-undone : {A B : Type 0} (f : A → B) (back : B → A) → ((a : A) → back (f a) ≡ a) → (a b : A) → f a ≡ f b → a ≡ b
-undone f back h a b e = sym (h a) ∙ ap back e ∙ h b
 
 -- A bound, read back.
 bound-back : ℕ → List ℕ → Bound

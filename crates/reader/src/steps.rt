@@ -42,8 +42,9 @@ pub fn next_number(s: &[u8], c: Cursor) -> Cursor
 pub fn judge(c: Cursor, ok: bool, why: u8) -> Cursor
     ensures { λ r. ⌜ r ≡ judged c ok why ⌝ }
 {
-    if c.refusal != 0 {
-        return refuse(c.refusal, c.start);
+    let met = c.refusal;
+    if met != 0 {
+        return refuse(met, c.start);
     }
     if ok {
         return c;

@@ -1,7 +1,7 @@
 -- Each number of a step is given exactly when its row of `Numbered` holds, by asking the tests in turn: 17 is never given,
 -- no byte brings a refusal about, and a refused step hands back the very state.
 use Prim.Native.Nat.{ℕ, _<_}
-use mathlib.Core.Path.{_≡_, refl, sym, _∙_, ap, subst}
+use mathlib.Core.Path.{_≡_, refl, sym, _∙_, ap}
 use mathlib.Core.List.{List}
 use mathlib.Core.Bool.{true}
 use mathlib.Core.Logic.{_≢_, _↔_}
@@ -11,6 +11,7 @@ use lib.ListN.{length}
 use lib.Dec.{eqb, ltb}
 use Rattle.basis.specs.Tests.{pick}
 use Rattle.basis.proofs.TestLaws.{by-test, both-ways}
+use Rattle.basis.proofs.BackLaws.{exactly-by, row-here}
 use Rattle.table.specs.Legal.{legal}
 use Rattle.table.specs.declared.Table.{Table}
 use Rattle.state.specs.declared.State.{State}
@@ -46,7 +47,7 @@ module _ (t : Table) (bs : List ℕ) (s : State) where
   number-only (steps a b c d) = ap (λ (x : Taken). x .told .number) (taken-steps a b c d)
 
   here : {n : ℕ} → Numbered t bs s n → Numbered t bs s (taken t bs s .told .number)
-  here r = subst (λ (n : ℕ). Numbered t bs s n) (sym (number-only r)) r
+  here r = row-here (Numbered t bs s) r (number-only r)
 
   number-given : Numbered t bs s (taken t bs s .told .number)
   number-given =
@@ -62,7 +63,7 @@ module _ (t : Table) (bs : List ℕ) (s : State) where
 
   -- each number, and 0, exactly when its row holds; a number without a row never
   pub number-exactly : (n : ℕ) → (taken t bs s .told .number ≡ n) ↔ Numbered t bs s n
-  number-exactly n = (λ e. subst (λ (k : ℕ). Numbered t bs s k) e number-given, λ r. number-only r)
+  number-exactly = exactly-by (Numbered t bs s) number-given (λ n r. number-only r)
 
 -- No row has 17.
 pub never-17 : (t : Table) (bs : List ℕ) (s : State) → taken t bs s .told .number ≢ 17

@@ -1,3 +1,4 @@
 pub mod GuardLaws
 pub mod SightLaws
+pub mod NumberLaws
 pub mod UniqueLaws

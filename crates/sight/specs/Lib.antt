@@ -1,2 +1,3 @@
 pub mod Shown
+pub mod Numbered
 pub mod Opened

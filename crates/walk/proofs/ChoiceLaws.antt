@@ -1,12 +1,12 @@
 -- Who is chosen, and who is left alone: a visit touches its own thread only, and a list that falls has each thread once.
-use Prim.Native.Nat.{ℕ, _+_, _<_}
+use Prim.Native.Nat.{ℕ, _+_, _-_, _≤_, _<_}
 use mathlib.Core.Path.{_≡_, refl, sym, _∙_, ap}
 use mathlib.Core.List.{List, [], _∷_}
 use mathlib.Core.Bool.{Bool, true, false, not, true≢false}
 use mathlib.Core.Logic.{_≢_, ⊎-elim}
 use native.Mathlib.Omega.{arith}
 use native.Mathlib.Nat.{lt-trans}
-use borrow.Author.Tests.{ne-eqb, eqb-true}
+use borrow.Author.Tests.{ne-eqb, eqb-true, eqb-false}
 use lib.ListN.{length, getD, length-set}
 use lib.Seq.{getD-set-same, getD-set-other}
 use lib.Dec.{eqb}
@@ -17,11 +17,12 @@ use Rattle.table.specs.Legal.{Legal}
 use Rattle.table.specs.Mark.{marked, marks-of}
 use Rattle.table.specs.declared.Table.{Table}
 use Rattle.table.proofs.MarkLaws.{marks-at}
-use Rattle.state.specs.State.{no-progress, progress, put}
+use Rattle.state.specs.State.{no-progress, progress, put, Fits}
 use Rattle.state.specs.Release.{release}
-use Rattle.state.specs.Methods.{paid, pay, finish, counted, count, tick}
+use Rattle.state.specs.Methods.{paid, pay, done, finish, counted, count, tick}
 use Rattle.state.specs.declared.Progress.{Progress}
 use Rattle.state.specs.declared.State.{State}
+use Rattle.state.proofs.ReleaseLaws.{release-length}
 use Rattle.order.specs.Order.{order, Stands}
 use Rattle.order.proofs.OrderLaws.{Falling-from, order-falls-from, order-whole}
 use Rattle.walk.specs.Walk.{heard, runs, walked, decided, visit, chosen, walk}
@@ -29,8 +30,9 @@ use Rattle.walk.specs.Step.{ticked, advance, step, Names, ran, idles}
 use Rattle.walk.specs.declared.Answer.{Answer}
 use Rattle.walk.specs.declared.Answer.the-variants.{Ran, IdleFor, Idle}
 use Rattle.walk.specs.declared.Walked.{Walked}
-use Rattle.walk.proofs.WalkLaws.{walk-on, walk-stop}
-use Rattle.walk.proofs.ReachedLaws.{marked-ends}
+use Rattle.walk.specs.Paid.{pays}
+use Rattle.walk.proofs.WalkLaws.{visit-keeps, walk-on, walk-stop}
+use Rattle.walk.proofs.ReachedLaws.{reached-pays, marked-ends}
 
 put-other : (s : State) (i k : ℕ) (p : Progress) → k ≢ i → progress (put s i p) k ≡ progress s k
 put-other s i k p d = getD-set-other (s .threads) i k p no-progress d
@@ -162,3 +164,55 @@ unfolding step advance ticked
 idle-only t g bs s e i l h =
     let w = walk-idle t (marks-of t) bs i 256 (order t) _ (order-falls-from t) e (order-whole t g i l) h in
     (sym (marks-at t i l) ∙ w .0, w .1)
+
+-- The thread that a visit names pays one.
+module _ (m : List Bool) (b i : ℕ) (s : State) (l : i < length (s .threads)) where
+  heard-rest : progress (heard b i s) i .rest ≡ progress s i .rest
+  unfolding heard finish
+  heard-rest = both-ways (λ (x : State). progress x i .rest ≡ progress s i .rest) _ _ _ (ap (λ (q : Progress). q .rest) (put-same s i _ l)) refl
+
+  heard-long : length (heard b i s .threads) ≡ length (s .threads)
+  unfolding heard finish
+  heard-long = both-ways (λ (x : State). length (x .threads) ≡ length (s .threads)) _ _ _ (length-set (s .threads) i _) refl
+
+  paid-rest : progress (pay (heard b i s) i) i .rest ≡ progress s i .rest - 1
+  unfolding pay
+  paid-rest = ap (λ (q : Progress). q .rest) (put-same (heard b i s) i _ (rw heard-long l)) ∙ ap (λ n. n - 1) heard-rest
+
+  counted-rest : progress (count (pay (heard b i s) i) i) i .rest ≡ progress s i .rest - 1
+  unfolding count pay
+  counted-rest =
+      let q : State = put (heard b i s) i (paid (progress (heard b i s) i)) in
+      ap (λ (x : Progress). x .rest) (put-same q i _ (rw (length-set (heard b i s .threads) i (paid (progress (heard b i s) i)), heard-long) l)) ∙ paid-rest
+
+  visit-pays : Names i (visit m b i s .answer) → progress (visit m b i s .state) i .rest + 1 ≡ progress s i .rest
+  unfolding visit
+  visit-pays =
+      let P : Walked → Type 0 = λ w. Names i (w .answer) → progress (w .state) i .rest + 1 ≡ progress s i .rest in
+      either P (eqb (progress s i .rest) 0) (λ e. nobody i)
+      (λ e.
+      let some = eqb-false (progress s i .rest) 0 e in
+      reached-pays m b i (heard b i s) P (λ n. omega (arith, counted-rest)) (λ n. omega (arith, paid-rest)) (nobody i))
+
+module _ (t : Table) (m : List Bool) (bs : List ℕ) where
+  walk-pays : (i p : ℕ) (is : List ℕ) (s : State) → Falling-from t p is → i < length (s .threads) → Names i (walk m bs is s .answer)
+      → progress (walk m bs is s .state) i .rest + 1 ≡ progress s i .rest
+  unfolding walk
+  walk-pays i p [] s f l n = nobody i n
+  walk-pays i p (j ∷ js) s f l n =
+      let P : Walked → Type 0 = λ w. Names i (w .answer) → progress (w .state) i .rest + 1 ≡ progress s i .rest in
+      let long : length (visit m (getD bs j 0) j s .state .threads) ≡ length (s .threads)
+      = visit-keeps (λ x. length (x .threads)) (λ x k q. length-set (x .threads) k q) m (getD bs j 0) j s in
+      both-ways P _ _ _
+      (λ v. let e : i ≡ j = visit-names m _ j s i v in rw e (visit-pays m (getD bs j 0) j s (rw e at l) (rw e at v)))
+      (λ w. walk-pays i _ js _ (f .1) (rw long l) w ∙ ap (λ (q : Progress). q .rest) (visit-others m _ j s i (apart t i j (walk-named t m bs i _ js _ (f .1) w))))
+      n
+
+-- The thread that an answer names, which ran or on whose account the processor idles, pays one.
+pub chosen-pays : (t : Table) (bs : List ℕ) (s : State) → t .count ≤ 32 → Fits t s → (i : ℕ) → i < t .count → Names i (step t bs s .answer)
+    → pays t bs s i ≡ 1
+unfolding pays step advance ticked tick
+chosen-pays t bs s few f i l n =
+    let long : length (release t (t .count) s .threads) ≡ 32 = release-length t (t .count) s ∙ f .long in
+    let w = walk-pays t (marks-of t) bs i 256 (order t) (release t (t .count) s) (order-falls-from t) (rw long (omega arith)) n in
+    omega (arith, w)

@@ -101,7 +101,7 @@ module _ (m : List Bool) (n : ℕ) (P : ℕ → Progress → Type 0) (kept : Kep
 
 -- what every store keeps is kept by a walk
 module _ {A : Type 0} (f : State → A) (kept : (s : State) (i : ℕ) (p : Progress) → f (put s i p) ≡ f s) where
-  visit-keeps : (m : List Bool) (b i : ℕ) (s : State) → f (visit m b i s .state) ≡ f s
+  pub visit-keeps : (m : List Bool) (b i : ℕ) (s : State) → f (visit m b i s .state) ≡ f s
   unfolding visit decided heard finish pay count
   visit-keeps m b i s =
       let Q : State → Type 0 = λ x. f x ≡ f s in

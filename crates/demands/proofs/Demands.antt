@@ -1,0 +1,89 @@
+-- The three demands hold: each sentence by the law that stands beside its definition.
+use Prim.Native.Nat.{ℕ, _<_}
+use mathlib.Core.Path.{_≡_, refl, ap}
+use mathlib.Core.Logic.{_↔_}
+use mathlib.Core.Bool.{true, false}
+use native.Mathlib.Omega.{arith}
+use lib.ListN.{replicate}
+use Rattle.basis.specs.Tests.{pick}
+use Rattle.basis.specs.Told.{Told, answered, refused}
+use Rattle.basis.proofs.TestLaws.{by-test}
+use Rattle.table.specs.Legal.{legal, Legal}
+use Rattle.table.specs.Mark.{marking}
+use Rattle.table.specs.declared.Table.{Table}
+use Rattle.table.proofs.LegalLaws.{legal-complete, legal-small}
+use Rattle.table.proofs.MarkLaws.{marks-exactly}
+use Rattle.reader.proofs.ReaderLaws.{refused-zero}
+use Rattle.writer.proofs.WriterLaws.{refused-stays}
+use Rattle.writer.proofs.NumberLaws.{write-number-exactly}
+use Rattle.codec.proofs.RoundTrip.{accepted-exactly, read-write, write-read}
+use Rattle.codec.proofs.JudgingLaws.{judged-exactly}
+use Rattle.state.specs.State.{no-progress}
+use Rattle.state.specs.declared.Progress.{Progress}
+use Rattle.state.specs.declared.State.{State}
+use Rattle.state.proofs.FitLaws.{fits-complete}
+use Rattle.walk.proofs.StepLaws.{chosen-rested}
+use Rattle.walk.proofs.PaidLaws.{pays-once, payments-most}
+use Rattle.walk.proofs.ChoiceLaws.{below-chosen, idle-only, chosen-pays}
+use Rattle.scheduler.proofs.RefusalLaws.{number-exactly, refused-keeps, same-refusal, taken-steps}
+use Rattle.scheduler.proofs.CallLaws.{calls-steps}
+use Rattle.sight.specs.Shown.{showing-state, threads-shown}
+use Rattle.sight.proofs.NumberLaws.{view-number-exactly, state-number-exactly, refused-zeros}
+use Rattle.isolation.proofs.Isolation.{demand-3, state-always-shown}
+use Rattle.admission.proofs.BoundLaws.{bound-exactly, none-exactly, bounding-exactly}
+use Rattle.admission.proofs.AdmitLaws.{admitting-exactly}
+use Rattle.admission.proofs.ProhibitionLaws.{prohibition-exactly, prohibiting-exactly}
+use Rattle.demands.specs.Demand1.{Demand-1}
+use Rattle.demands.specs.Demand2.{Demand-2}
+use Rattle.demands.specs.Demand3.{Demand-3}
+
+-- Marks are refused with 11 exactly where the table is not legal.
+marks-refused : (t : Table) → (marking t .number ≡ 11) ↔ (legal t ≡ false)
+unfolding marking pick
+marks-refused t = (
+  λ e. by-test (legal t) (λ l. let z : marking t .number ≡ 0 = rw l in absurd (omega arith)) (λ l. l),
+  λ l. rw l,
+)
+
+pub demand-1-holds : Demand-1
+demand-1-holds = record {
+  bytes-judged = judged-exactly;
+  refused-table = refused-zero;
+  step-numbered = number-exactly;
+  marks-numbered = marks-refused;
+  writer-numbered = write-number-exactly;
+  view-numbered = view-number-exactly;
+  state-numbered = state-number-exactly;
+  bound-answered = bounding-exactly;
+  admission-answered = admitting-exactly;
+  prohibition-answered = prohibiting-exactly;
+  state-back = refused-keeps;
+  nothing-written = refused-stays;
+  zeros-shown = refused-zeros;
+  no-byte-refuses = same-refusal;
+}
+
+pub demand-2-holds : Demand-2
+demand-2-holds = record {
+  accepted-exactly = accepted-exactly;
+  read-write = read-write;
+  write-read = write-read;
+  marks = marks-exactly;
+  call-steps = λ t ok bs e s f l. taken-steps t bs s ok (fits-complete t s f) e l;
+  run-steps = calls-steps;
+  chosen-rested = chosen-rested;
+  below-chosen = below-chosen;
+  idle-only = idle-only;
+  chosen-pays = λ t few bs s f i l n. chosen-pays t bs s few f i l n;
+  pays-once = pays-once;
+  payments-most = payments-most;
+  bounds = bound-exactly;
+  no-bounds = none-exactly;
+  prohibitions = prohibition-exactly;
+}
+
+pub demand-3-holds : Demand-3
+demand-3-holds = record {
+  isolated = λ t g. demand-3 t (legal-complete t g) (g .sized);
+  shown-throughout = λ t g. state-always-shown t (legal-complete t g);
+}

@@ -1,0 +1,66 @@
+-- Demand 2, whole: both round trips; and marks, the thread or idle chosen at each step, what every thread pays and the admission answers
+-- are those of document 01, from every fitting state.
+use Prim.Native.Nat.{ℕ, _+_, _-_, _%_, _≤_, _<_}
+use mathlib.Core.Path.{_≡_}
+use mathlib.Core.List.{List, [], _∷_, map}
+use mathlib.Core.Logic.{_↔_}
+use mathlib.Core.Bool.{true, false}
+use lib.ListN.{length, getD, take, drop}
+use Rattle.basis.specs.Search.{found, nothing}
+use Rattle.basis.specs.Told.{answered}
+use Rattle.table.specs.Threads.{thread}
+use Rattle.table.specs.Legal.{legal, Sized, Legal}
+use Rattle.table.specs.Mark.{Leaks, marked, marks-given}
+use Rattle.table.specs.declared.Table.{Table}
+use Rattle.numeral.specs.NumberRules.{Bytes}
+use Rattle.reader.specs.Reader.{accepted, reading}
+use Rattle.writer.specs.Format.{bytes}
+use Rattle.writer.specs.Writer.{overlaid, writing, written}
+use Rattle.state.specs.State.{progress, last-clock, Fits}
+use Rattle.state.specs.Release.{release, releases}
+use Rattle.state.specs.declared.State.{State}
+use Rattle.walk.specs.Walk.{runs}
+use Rattle.walk.specs.Step.{step, Rested, Names}
+use Rattle.walk.specs.Paid.{pays, payments}
+use Rattle.walk.specs.declared.Answer.the-variants.{Idle}
+use Rattle.scheduler.specs.Taken.{took, taken}
+use Rattle.scheduler.specs.Calls.{Whole-steps, calls, steps}
+use Rattle.admission.specs.Bounded.{bound, Is-bound, No-bound}
+use Rattle.admission.specs.Demand.{Sum-of}
+use Rattle.admission.specs.Prohibition.{prohibition, Prohibits}
+
+pub record Demand-2 : Type 0 where
+  -- Bytes are accepted exactly when they are those of a legal table, and then they are read as that table; so a legal table has one form.
+  pub accepted-exactly : (s : List ℕ) → Bytes s → (t : Table) → (reading s ≡ accepted t) ↔ (Legal t × (s ≡ bytes t))
+  -- Reading accepted bytes and writing them gives the same bytes, wherever there is room; the bytes around them stay.
+  pub read-write : (s : List ℕ) → Bytes s → (t : Table) → reading s ≡ accepted t → (b : List ℕ) (at : ℕ) → at + length s ≤ length b
+      → (writing b at t ≡ answered ((at + length s) ∷ [])) × (written b at t ≡ overlaid b at s)
+  -- Writing a legal table and reading it gives the same table.
+  pub write-read : (t : Table) → Sized t → (b : List ℕ) (at next : ℕ) → writing b at t ≡ answered (next ∷ [])
+      → reading (drop at (take next (written b at t))) ≡ accepted t
+  -- A thread is marked exactly when some thread of lower priority has a domain that its own may not flow to.
+  pub marks : (t : Table) (i : ℕ) → legal t ≡ true → i < t .count → (getD (marks-given t) i false ≡ true) ↔ Leaks t i
+  -- From every fitting state a call that nothing refuses is the step, and so is each of a whole run of them.
+  pub call-steps : (t : Table) → legal t ≡ true → (bs : List ℕ) → length bs ≡ t .count → (s : State) → Fits t s → s .clock < last-clock
+      → taken t bs s ≡ took (step t bs s)
+  pub run-steps : (t : Table) → legal t ≡ true → (a : List (List ℕ)) → Whole-steps t a → (s : State) → Fits t s
+      → s .clock + length a ≤ last-clock → calls t a s ≡ map took (steps t a s)
+  -- The thread chosen had a rest; those below it are as the release left them; and the processor idles on nobody's account only where no
+  -- thread with a rest runs or is marked.
+  pub chosen-rested : (t : Table) (bs : List ℕ) (s : State) → Rested (step t bs s .answer) (release t (t .count) s)
+  pub below-chosen : (t : Table) (bs : List ℕ) (s : State) (i k : ℕ) → Names i (step t bs s .answer)
+      → thread t k .priority < thread t i .priority → progress (step t bs s .state) k ≡ progress (release t (t .count) s) k
+  pub idle-only : (t : Table) → Legal t → (bs : List ℕ) (s : State) → step t bs s .answer ≡ Idle → (i : ℕ) → i < t .count
+      → 0 < progress (release t (t .count) s) i .rest
+      → (marked t i ≡ false) × (runs (getD bs i 0) (progress (release t (t .count) s) i) ≡ false)
+  -- The thread that an answer names pays one, every thread one at most, and between two releases W at most.
+  pub chosen-pays : (t : Table) → t .count ≤ 32 → (bs : List ℕ) (s : State) → Fits t s → (i : ℕ) → i < t .count
+      → Names i (step t bs s .answer) → pays t bs s i ≡ 1
+  pub pays-once : (t : Table) (bs : List ℕ) (s : State) (i : ℕ) → pays t bs s i ≤ 1
+  pub payments-most : (t : Table) (i : ℕ) (bs : List ℕ) (more : List (List ℕ)) (s : State) → i < t .count → Fits t s
+      → ((c : ℕ) → s .clock < c → c ≤ s .clock + length more → releases t i c ≡ false) → payments t i (bs ∷ more) s ≤ thread t i .budget
+  -- A bound is the smallest length from W to D whose demand is at most that length, and there is none exactly where no length is so.
+  pub bounds : (t : Table) (i x : ℕ) → (bound t i ≡ found x) ↔ Is-bound t i x
+  pub no-bounds : (t : Table) (i : ℕ) → (bound t i ≡ nothing) ↔ No-bound t i
+  -- The prohibition time is the sum of what each thread brings.
+  pub prohibitions : (t : Table) (l time : ℕ) → (prohibition t l ≡ time) ↔ Sum-of (Prohibits t l) (t .count) time
