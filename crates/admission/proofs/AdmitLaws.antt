@@ -10,7 +10,7 @@ use lib.ListN.{length, getD, replicate, length-append, length-replicate}
 use lib.Seq.{ext-getD}
 use lib.Dec.{ltb}
 use Rattle.basis.specs.Tests.{pick}
-use Rattle.basis.specs.Search.{Sought, nothing, found, first, listed}
+use Rattle.basis.specs.Search.{Sought, nothing, found, listed}
 use Rattle.basis.specs.Told.{Told}
 use Rattle.basis.proofs.TestLaws.{by-test}
 use Rattle.basis.proofs.SearchLaws.{first-nothing, first-all, first-found, first-hit, Found-at, length-listed, listed-at, listed-past}

@@ -8,7 +8,7 @@ use native.Mathlib.Decide.{decLt}
 use native.Mathlib.Omega.{arith}
 use lib.Dec.{ltb, leb}
 use borrow.Author.Tests.{le-leb, lt-leb, leb-true, leb-false, lt-ltb, le-ltb, ltb-true, ltb-false}
-use Rattle.basis.specs.Tests.{pick, and}
+use Rattle.basis.specs.Tests.{pick}
 use Rattle.basis.specs.Search.{Sought, nothing, found}
 use Rattle.basis.specs.Told.{Told}
 use Rattle.basis.proofs.TestLaws.{by-test, and-both}

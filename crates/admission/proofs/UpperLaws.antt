@@ -10,7 +10,7 @@ use Rattle.basis.specs.Tests.{pick}
 use Rattle.basis.specs.Search.{Sought, first}
 use Rattle.basis.proofs.TestLaws.{by-test, fails}
 use Rattle.table.specs.Threads.{none, thread}
-use Rattle.table.specs.Legal.{legal, Legal}
+use Rattle.table.specs.Legal.{Legal}
 use Rattle.table.specs.declared.Table.{Table}
 use Rattle.table.specs.declared.Thread.{Thread}
 use Rattle.table.proofs.LegalLaws.{legal-complete}

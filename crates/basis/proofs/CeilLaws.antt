@@ -1,5 +1,5 @@
 -- The two laws of the quotient rounded up: it is the least number of divisors that cover the dividend. Only they and `rounded_up` open it.
-use Prim.Native.Nat.{ℕ, suc, _+_, _-_, _*_, _/_, _≤_, _<_}
+use Prim.Native.Nat.{ℕ, suc, _+_, _-_, _*_, _≤_, _<_}
 use native.Mathlib.Nat.{div-lt-iff-lt-mul, lt-div-mul-add, suc-mul}
 use native.Mathlib.Omega.{arith}
 use Rattle.basis.specs.Ceil.{ceil}

@@ -15,7 +15,7 @@ use Rattle.basis.proofs.TestLaws.{by-test}
 use Rattle.table.specs.declared.Table.{Table}
 use Rattle.state.specs.declared.State.{State}
 use Rattle.bench.specs.Text.{Run, play, bytes-of, played, played-all, from}
-use Rattle.bench.proofs.PlayLaws.{Adds, play-adds}
+use Rattle.bench.proofs.PlayLaws.{Adds, play-adds, played-none, played-suc}
 
 -- Steps of a front are those of the whole.
 front-step : (xs ys : List ℕ) (n k : ℕ) → suc k * n ≤ length xs → bytes-of n k (xs ++ ys) ≡ bytes-of n k xs
@@ -25,19 +25,17 @@ front-step xs ys n k h =
 
 module _ (t : Table) (xs ys : List ℕ) where
   front-played : (r : Run) (k : ℕ) → k * t .count ≤ length xs → played t (xs ++ ys) r k ≡ played t xs r k
-  unfolding played
-  front-played r zero h = refl
+  front-played r zero h = played-none t (xs ++ ys) r ∙ sym (played-none t xs r)
   front-played r (suc k) h =
       let e = suc-mul k (t .count) in
-      rw (front-step xs ys (t .count) k h, front-played r k (omega arith))
+      rw (played-suc t (xs ++ ys) r k, played-suc t xs r k, front-step xs ys (t .count) k h, front-played r k (omega arith))
 
   -- and steps behind it are those of the rest
   rest-played : (r : Run) (m k : ℕ) → length xs ≡ m * t .count → played t (xs ++ ys) r (m + k) ≡ played t ys (played t xs r m) k
-  unfolding played
-  rest-played r m zero e = rw add-zero (front-played r m (omega arith))
+  rest-played r m zero e = rw (add-zero, played-none t ys (played t xs r m)) (front-played r m (omega arith))
   rest-played r m (suc k) e =
       let p : (m + k) * t .count ≡ length xs + k * t .count = add-mul m k (t .count) ∙ rw (← e) in
-      rw (add-suc m k, p, drop-append-add xs ys (k * t .count), rest-played r m k e)
+      rw (add-suc m k, played-suc t (xs ++ ys) r (m + k), played-suc t ys (played t xs r m) k, p, drop-append-add xs ys (k * t .count), rest-played r m k e)
 
 -- As many steps as whole steps were read first, and as many as the rest asks for.
 ceil-whole : (m b l : ℕ) → 0 < b → ceil (m * b + l) b ≡ m + ceil l b
@@ -56,8 +54,9 @@ ceil-none b some = let h : ceil 0 b ≤ 0 = ceil-least 0 b 0 some (omega arith) 
 
 played-adds : (t : Table) (bs : List ℕ) (r : Run) (k : ℕ) →
     Adds r (played t bs r k) (played t bs (record { lines = []; state = r .state; why = r .why }) k)
-unfolding played
-played-adds t bs r zero = record { lines = sym (append-nil (r .lines)); state = refl; why = refl }
+played-adds t bs r zero =
+    let e : Run = record { lines = []; state = r .state; why = r .why } in
+    rw (played-none t bs r, played-none t bs e) (record { lines = sym (append-nil (r .lines)); state = refl; why = refl })
 played-adds t bs r (suc k) =
     let e : Run = record { lines = []; state = r .state; why = r .why } in
     let a = played-adds t bs r k in
@@ -65,12 +64,14 @@ played-adds t bs r (suc k) =
     let y = play-adds t (bytes-of (t .count) k bs) (played t bs e k) in
     let z : Adds (played t bs r k) (play t (bytes-of (t .count) k bs) (played t bs r k))
     (play t (bytes-of (t .count) k bs) (record { lines = []; state = played t bs e k .state; why = played t bs e k .why })) =
-    rw (a .state, a .why) at x in
-    record {
+    subst (λ (w : State × ℕ). Adds (played t bs r k) (play t (bytes-of (t .count) k bs) (played t bs r k)) (play t (bytes-of (t .count) k bs) (record { lines = []; state = w .0; why = w .1 })))
+    (λ j. (a .state j, a .why j)) x in
+    rw (played-suc t bs r k, played-suc t bs e k)
+    (record {
       lines = cc (append-assoc (r .lines) (played t bs e k .lines) (play t (bytes-of (t .count) k bs) (record { lines = []; state = played t bs e k .state; why = played t bs e k .why }) .lines));
       state = z .state ∙ sym (y .state);
       why = z .why ∙ sym (y .why);
-    }
+    })
 
 open-adds : (t : Table) (bs : List ℕ) (r : Run) (k : ℕ) → r .why ≡ 0 → Adds r (played t bs r k) (played t bs (from (r .state)) k)
 open-adds t bs r k e =

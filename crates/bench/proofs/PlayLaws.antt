@@ -8,6 +8,9 @@ use lib.ListN.{length, take, drop, length-drop}
 use lib.Seq.{take-all, take-length}
 use lib.Dec.{eqb, ltb, leb}
 use borrow.Author.Tests.{eq-eqb, ne-eqb, ltb-true, ltb-false, leb-true, leb-false}
+use Rattle.basis.specs.Search.{listed}
+use Rattle.basis.specs.Turns.{after}
+use Rattle.basis.proofs.TurnLaws.{after-join}
 use Rattle.basis.specs.Tests.{pick}
 use Rattle.basis.specs.Ceil.{ceil}
 use Rattle.basis.proofs.TestLaws.{by-test}
@@ -26,7 +29,7 @@ use Rattle.scheduler.proofs.UniqueLaws.{told-injective}
 use Rattle.writer.specs.Buffer.{Put}
 use Rattle.writer.proofs.WriterLaws.{put-none, put-join}
 use Rattle.report.specs.Lines.{step-line}
-use Rattle.bench.specs.Text.{Run, after, play, bytes-of, played}
+use Rattle.bench.specs.Text.{Run, with-step, play, bytes-of, played}
 use Rattle.bench.specs.Playing.{run-of, Plays}
 use Rattle.bench.specs.declared.play.Played.{Played}
 
@@ -65,14 +68,14 @@ module _ (t : Table) (bs b : List ℕ) (p : Played) where
   pub plays-chose : (a : Answer) (s' : State) (b' : List ℕ) (next : ℕ) → p .why ≡ 0
       → taken t bs (p .state) ≡ record { told = answered (values a); state = s' } → Put b (p .next) b' next (step-line (p .state .clock) a)
       → Plays b p b' (record { state = s'; why = 0; next = next }) (play t bs (run-of p))
-  unfolding play after pick
+  unfolding play with-step pick
   plays-chose a s' b' next z e f = rw (eq-eqb _ _ z, answer-taken t bs (p .state) a s' e, e) (record { state = refl; why = refl; put = f })
 
   -- a refused one ends the run
   pub plays-refused : (why : ℕ) (s' : State) → p .why ≡ 0
       → taken t bs (p .state) ≡ record { told = refused why; state = s' }
       → Plays b p b (record { state = s'; why = why; next = p .next }) (play t bs (run-of p))
-  unfolding play after pick
+  unfolding play with-step pick
   plays-refused why s' z e =
       rw (eq-eqb _ _ z, e, ne-eqb _ _ (refusal-some t bs (p .state) why s' e)) (record { state = refl; why = refl; put = put-none _ _ })
 
@@ -83,7 +86,7 @@ pub record Adds (r q e : Run) : Type 0 where
   pub why : q .why ≡ e .why
 
 pub play-adds : (t : Table) (bs : List ℕ) (r : Run) → Adds r (play t bs r) (play t bs (record { lines = []; state = r .state; why = r .why }))
-unfolding play after pick
+unfolding play with-step pick
 play-adds t bs r =
     by-test (eqb (r .why) 0) (λ e. rw e (record { lines = refl; state = refl; why = refl }))
     (λ e. rw e (record { lines = sym (append-nil (r .lines)); state = refl; why = refl }))
@@ -95,9 +98,17 @@ plays-next t bs {q = q} r f g =
     let a : Adds r (play t bs r) (play t bs (run-of q)) = rw (f .state, f .why) (play-adds t bs r) in
     record { state = g .state ∙ sym (a .state); why = g .why ∙ sym (a .why); put = rw (a .lines) (put-join (f .put) (g .put)) }
 
+-- No steps, and one step more.
+pub played-none : (t : Table) (bs : List ℕ) (r : Run) → played t bs r 0 ≡ r
+unfolding played listed after
+played-none t bs r = refl
+
+pub played-suc : (t : Table) (bs : List ℕ) (r : Run) (k : ℕ) → played t bs r (suc k) ≡ play t (bytes-of (t .count) k bs) (played t bs r k)
+unfolding played listed after
+played-suc t bs r k = after-join (play t) (λ (x : Run). x) (listed k (λ j. bytes-of (t .count) j bs)) (bytes-of (t .count) k bs ∷ []) r
+
 pub played-next : (t : Table) (bs : List ℕ) (r : Run) (k : ℕ) → played t bs r (k + 1) ≡ play t (bytes-of (t .count) k bs) (played t bs r k)
-unfolding played
-played-next t bs r k = rw add-one
+played-next t bs r k = rw add-one (played-suc t bs r k)
 
 -- The bytes of step k start where the code stands, and end where it says.
 module _ (bs : List ℕ) (n k : ℕ) (some : 0 < n) (h : k < ceil (length bs) n) where

@@ -7,7 +7,7 @@ use Rattle.example.specs.Example.{example-bytes}
 use Rattle.reader.specs.Opened.{opened as reader-opened}
 use Rattle.scheduler.specs.Opened.{opened as steps-opened}
 use Rattle.report.specs.Opened.{opened as report-opened}
-use Rattle.bench.specs.Text.{after, play, played, last-line, run-text, judged-text, bench-text}
+use Rattle.bench.specs.Text.{with-step, play, played, last-line, run-text, judged-text, bench-text}
 
 -- Thread 0 sends 1, 0, 0, 2 and then 1 six times, thread 1 sends 1 ten times.
 abbrev pub step-bytes : List ℕ
@@ -35,5 +35,5 @@ text =
     ++ (0x65 ∷ 0x6E ∷ 0x64 ∷ 0x20 ∷ 0x31 ∷ 0x30 ∷ 0x0A ∷ [])
 
 pub example-printed : bench-text example-bytes step-bytes ≡ text
-unfolding reader-opened steps-opened report-opened ceil after play played last-line run-text judged-text
+unfolding reader-opened steps-opened report-opened ceil with-step play played last-line run-text judged-text
 example-printed = refl

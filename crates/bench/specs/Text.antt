@@ -1,9 +1,11 @@
 -- What program bench prints, from the bytes of table.bin and those of standard input.
-use Prim.Native.Nat.{ℕ, zero, suc, _*_}
+use Prim.Native.Nat.{ℕ, _*_}
 use mathlib.Core.List.{List, [], _++_}
 use lib.ListN.{length, getD, take, drop}
 use lib.Dec.{eqb}
 use Rattle.basis.specs.Tests.{pick}
+use Rattle.basis.specs.Search.{listed}
+use Rattle.basis.specs.Turns.{after}
 use Rattle.basis.specs.Ceil.{ceil}
 use Rattle.table.specs.declared.Table.{Table}
 use Rattle.reader.specs.Reader.{Read, reading}
@@ -21,8 +23,8 @@ pub record Run : Type 0 where
   pub why : ℕ
 
 -- A step that was taken adds a line, with the clock before it; a refused one ends the run.
-unfoldable pub after : Run → Answer → Taken → Run
-after r a k = record {
+unfoldable pub with-step : Run → Answer → Taken → Run
+with-step r a k = record {
   lines = r .lines ++ pick (eqb (k .told .number) 0) (step-line (r .state .clock) a) [];
   state = k .state;
   why = k .told .number;
@@ -30,7 +32,7 @@ after r a k = record {
 
 -- One step more, with these bytes, unless the run has ended.
 unfoldable pub play : Table → List ℕ → Run → Run
-play t bs r = pick (eqb (r .why) 0) (after r (step t bs (r .state) .answer) (taken t bs (r .state))) r
+play t bs r = pick (eqb (r .why) 0) (with-step r (step t bs (r .state) .answer) (taken t bs (r .state))) r
 
 -- The bytes of step k where each step has n: the last may have fewer.
 abbrev pub bytes-of : ℕ → ℕ → List ℕ → List ℕ
@@ -38,8 +40,7 @@ bytes-of n k bs = take n (drop (k * n) bs)
 
 -- The run after the first k steps of these bytes.
 unfoldable pub played : Table → List ℕ → Run → ℕ → Run
-played t bs r zero = r
-played t bs r (suc k) = play t (bytes-of (t .count) k bs) (played t bs r k)
+played t bs r k = after (play t) (λ (x : Run). x) (listed k (λ j. bytes-of (t .count) j bs)) r
 
 -- The run after all steps of these bytes, one short of bytes too.
 abbrev pub played-all : Table → List ℕ → Run → Run

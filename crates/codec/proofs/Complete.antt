@@ -1,33 +1,32 @@
 -- The bytes of a legal table are accepted and read to that table: each part of the reader, standing where the bytes of what
 -- is in range stand, reads it and goes on behind it.
 use Prim.Native.Nat.{ℕ, zero, suc, _+_, _-_, _≤_, _<_}
-use mathlib.Core.Path.{_≡_, refl, ap, sym, _∙_, subst}
-use mathlib.Core.Bool.{Bool, true, false, not}
-use mathlib.Core.List.{List, [], _∷_, _++_}
+use mathlib.Core.Path.{_≡_, refl, ap, _∙_, subst}
+use mathlib.Core.Bool.{true, false}
+use mathlib.Core.List.{List, _++_}
 use native.Mathlib.Omega.{arith}
-use lib.ListN.{length, getD, set, take, drop, replicate}
-use lib.Seq.{take-suc, take-all}
-use lib.Dec.{eqb, ltb}
+use lib.ListN.{length, getD, take, replicate}
+use lib.Dec.{eqb}
 use borrow.Author.Tests.{le-ltb, eqb-true}
-use Rattle.basis.specs.Tests.{pick, or}
+use Rattle.basis.specs.Tests.{pick}
 use Rattle.basis.specs.Search.{nothing, listed}
 use Rattle.basis.proofs.TestLaws.{by-test, every-at}
 use Rattle.basis.proofs.ListLaws.{front, front-suc, front-all, front-getD, unused-by}
 use Rattle.flow.specs.Flow.{row-ok}
 use Rattle.flow.specs.Gap.{first-gap}
 use Rattle.flow.proofs.FlowLaws.{row-small}
-use Rattle.table.specs.Threads.{field-count, none, thread, fields, thread-of}
+use Rattle.table.specs.Threads.{field-count, none, fields, thread-of}
 use Rattle.table.specs.Ranges.{range, within, domain-counts, thread-counts, field-range}
 use Rattle.table.specs.Legal.{field-ok, thread-ok, taken, Legal, Legal-thread}
 use Rattle.table.specs.declared.Range.{Range}
 use Rattle.table.specs.declared.Thread.{Thread}
 use Rattle.table.specs.declared.Table.{Table}
-use Rattle.table.proofs.RangeLaws.{within-low, within-high, within-is, field-range-by, below-small, thread-of-test}
+use Rattle.table.proofs.RangeLaws.{within-high, within-is, field-range-by, below-small, thread-of-test}
 use Rattle.table.proofs.LegalLaws.{Parts, parts-of-legal}
 use Rattle.reader.specs.declared.Cursor.{Cursor}
 use Rattle.reader.specs.declared.RowsRead.{RowsRead}
 use Rattle.reader.specs.declared.ThreadsRead.{ThreadsRead}
-use Rattle.numeral.specs.Number.{number-at, encode, encode-all}
+use Rattle.numeral.specs.Number.{encode, encode-all}
 use Rattle.writer.specs.Format.{row-numbers, thread-numbers, numbers, bytes}
 use Rattle.reader.specs.Reader.{good, number-from, judged, ranged, row-from, rows-from, free, field-from, fields-from, threads-from, accepted, ended, after-rows, version-from, domains-from, count-from, reading}
 use Rattle.numeral.proofs.NumberLaws.{encode-all-append, encode-all-take}

@@ -1,26 +1,25 @@
 -- Accepted bytes are those of the table that was read, and that table is legal: each part of the reader, where it did not
 -- refuse, stood on the bytes of what it read and found it in range.
-use Prim.Native.Nat.{ℕ, zero, suc, _+_, _-_, _*_, _≤_, _<_}
-use mathlib.Core.Path.{_≡_, refl, ap, sym, _∙_}
-use mathlib.Core.Bool.{Bool, true, false, not}
-use mathlib.Core.List.{List, [], _∷_, _++_, append-nil, append-assoc}
+use Prim.Native.Nat.{ℕ, zero, suc, _+_, _-_, _≤_, _<_}
+use mathlib.Core.Path.{_≡_, refl, ap, _∙_}
+use mathlib.Core.Bool.{Bool, true, false}
+use mathlib.Core.List.{List, [], _∷_, _++_, append-nil}
 use mathlib.Core.Logic.{⊎-elim}
 use native.Mathlib.Omega.{arith}
 use native.Mathlib.Nat.{eq-or-lt-of-le}
-use lib.ListN.{length, getD, set, take, drop, replicate, length-set, length-replicate, getD-replicate, drop-of-length-le, List·getD-eq-default}
-use lib.Seq.{getD-set-same, getD-set-other, take-suc-set, take-set-le, take-all}
-use lib.Dec.{eqb, ltb, leb}
+use lib.ListN.{length, getD, set, take, drop, length-set, drop-of-length-le}
+use lib.Seq.{getD-set-same, getD-set-other, take-suc-set, take-all}
+use lib.Dec.{eqb, ltb}
 use borrow.Author.Tests.{eqb-true, eqb-false, ltb-false, not-true}
-use Rattle.basis.specs.Tests.{pick, and, or}
+use Rattle.basis.specs.Tests.{pick}
 use Rattle.basis.specs.Search.{Sought, nothing, found, listed}
-use Rattle.basis.specs.Told.{Told}
 use Rattle.basis.proofs.TestLaws.{by-test, every-all}
 use Rattle.basis.proofs.ListLaws.{all-alike}
 use Rattle.flow.specs.Flow.{row-ok}
 use Rattle.flow.specs.Gap.{Triple, first-gap}
-use Rattle.table.specs.Threads.{field-count, none, thread, fields, thread-of}
+use Rattle.table.specs.Threads.{field-count, none, fields, thread-of}
 use Rattle.table.specs.Ranges.{range, within, domain-counts, thread-counts, field-range}
-use Rattle.table.specs.Legal.{field-ok, thread-ok, taken, Sized, Legal}
+use Rattle.table.specs.Legal.{field-ok, thread-ok, taken, Legal}
 use Rattle.table.specs.declared.Range.{Range}
 use Rattle.table.specs.declared.Table.{Table}
 use Rattle.table.specs.declared.Thread.{Thread}
@@ -36,7 +35,7 @@ use Rattle.numeral.specs.Number.{number, number-at, encode, encode-all}
 use Rattle.writer.specs.Format.{row-numbers, thread-numbers, numbers, bytes}
 use Rattle.reader.specs.Reader.{good, took, number-from, judged, ranged, row-from, rows-from, free, field-from, fields-from, threads-from, Read, accepted, refused-at, whole-or-gap, ended, after-rows, version-from, domains-from, count-from, reading}
 use Rattle.numeral.specs.NumberRules.{Bytes}
-use Rattle.numeral.proofs.NumberLaws.{Told-why, number-why, encode-all-append, encode-all-last}
+use Rattle.numeral.proofs.NumberLaws.{number-why, encode-all-append, encode-all-last}
 use Rattle.numeral.proofs.Runs.{Reads, number-reads, reads-nil, reads-join}
 use Rattle.reader.proofs.ReaderLaws.{ranged-le, length-fields}
 use Rattle.codec.proofs.FormatLaws.{rows-more, threads-more, rows-set, threads-set, taken-same}

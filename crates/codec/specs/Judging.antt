@@ -1,6 +1,6 @@
 -- When each refusal of the reader is given, in plain words: the numbers stand one after the other, each is judged by those
 -- before it, and the first that is objected to ends the reading, with its place.
-use Prim.Native.Nat.{ℕ, zero, suc, _+_, _*_, _/_, _%_, _≤_, _<_}
+use Prim.Native.Nat.{ℕ, _+_, _*_, _/_, _%_, _<_}
 use mathlib.Core.Path.{_≡_}
 use mathlib.Core.List.{List, [], _∷_, _++_}
 use mathlib.Core.Bool.{Bool, true, false}

@@ -1,227 +1,86 @@
-// Plays random tables, states and bytes, legal and damaged, with both schedulers, the proved one and crate rival. Prints how
-// many of each kind were played, and last how often the two disagreed.
-mod bounds;
-mod bytes;
-mod damage;
-mod dice;
+// Plays random tables and states, legal and damaged, with both schedulers, the proved one and crate rival. Prints how many of
+// each kind were played, and last how often the two disagreed.
 mod play;
-mod same;
-mod states;
-mod tables;
-mod tally;
+mod report;
+mod views;
 
+use dice::part;
+use dice::seldom;
+use scheduler::State;
 use table::Table;
-use tally::Tally;
-use tally::count;
-use tally::counted;
 
-// The threads of a legal table, and the marked ones among them.
-fn count_threads(tally: &mut Tally, t: Table) {
-    let marked = rival::marks(t);
-    let marks = marked.marks;
-    for i in 0..32 {
-        if i < t.count as usize {
-            count(tally, tally::THREADS);
+// What came up, counted by its kind.
+pub type Tally = [u32; 64];
+
+fn count(tally: &mut Tally, kind: u32) {
+    let k = kind as usize % 64;
+    tally[k] = std::num::wrapping_add_u32(tally[k], 1);
+}
+
+// A run of some steps.
+fn run(tally: &mut Tally, seed: u64, t: Table, from: State, steps: u32) {
+    let mut s = from;
+    for k in 0..steps {
+        let bytes = deal::bytes(part(seed, k));
+        let r = play::step(t, s, &bytes, t.count);
+        count(tally, r.kind);
+        s = r.state;
+    }
+}
+
+// One step of a table and a state that may both be damaged, with the right number of bytes or a wrong one; and what a domain is
+// shown of it.
+fn try_out(tally: &mut Tally, seed: u64, t: Table, s: State) {
+    let bytes = deal::bytes(seed);
+    let n = play::some_length(seed, t.count);
+    let r = play::step(t, s, &bytes, n);
+    count(tally, r.kind);
+    count(tally, play::marks(t));
+    count(tally, views::shown(part(seed, 1), t));
+    count(tally, views::shown_state(part(seed, 2), t, r.state));
+}
+
+// A table with each kind of damage, and a state that fits the table as it was.
+fn damaged_tables(tally: &mut Tally, seed: u64, t: Table) {
+    for kind in 0..spoil::KINDS {
+        let own = part(seed, kind);
+        let u = spoil::table(own, t, kind);
+        let mut s = deal::state(own, t);
+        if seldom(own, 50, 4) {
+            s.clock = 1000000000;
         }
-        if marks[i] {
-            count(tally, tally::MARKED);
-        }
+        count(tally, report::DAMAGED_TABLE + kind);
+        try_out(tally, own, u, s);
     }
 }
 
-fn play_states(tally: &mut Tally, seed: &mut u64, t: Table) {
-    for k in 0u8..7 {
-        count(tally, tally::STATES);
-        let s = states::random_state(seed, t);
-        play::run(tally, seed, t, s, 2);
+// A state with each kind of damage.
+fn damaged_states(tally: &mut Tally, seed: u64, t: Table) {
+    for kind in 0..spoil::STATE_KINDS {
+        let own = part(seed, kind);
+        let s = spoil::state(own, t, deal::state(own, t), kind);
+        count(tally, report::DAMAGED_STATE + kind);
+        try_out(tally, own, t, s);
     }
 }
 
-fn play_damaged_tables(tally: &mut Tally, seed: &mut u64, t: Table) {
-    for kind in 0..8 {
-        play::illegal(tally, seed, t, kind);
+fn play_table(tally: &mut Tally, seed: u64) {
+    let t = deal::table(seed);
+    count(tally, report::TABLES);
+    run(tally, part(seed, 1), t, scheduler::fresh(), 30);
+    for k in 2..9u32 {
+        let own = part(seed, k);
+        run(tally, own, t, deal::state(own, t), 2);
+        try_out(tally, part(own, 1), t, deal::state(own, t));
     }
-}
-
-fn play_damaged_states(tally: &mut Tally, seed: &mut u64, t: Table) {
-    for kind in 0..5 {
-        play::misfit(tally, seed, t, kind);
-    }
-}
-
-fn play_table(tally: &mut Tally, seed: &mut u64) {
-    let t = tables::random_table(seed);
-    count(tally, tally::TABLES);
-    count_threads(tally, t);
-    play::marks(tally, t);
-    count(tally, tally::RUNS);
-    play::run(tally, seed, t, scheduler::fresh(), 30);
-    play_states(tally, seed, t);
-    play_damaged_tables(tally, seed, t);
-    play_damaged_states(tally, seed, t);
-    bounds::bounds(tally, seed, t);
-    bytes::both_ways(tally, seed, t);
-}
-
-fn play_tables(tally: &mut Tally, seed: &mut u64, tables: u16) {
-    for k in 0..tables {
-        play_table(tally, seed);
-    }
-}
-
-fn line(tally: &Tally, kind: usize, text: &[u8]) {
-    io::print_decimal(1, counted(tally, kind) as u64);
-    io::write_all(1, text);
-}
-
-// How often each number from the first to below the limit was given.
-fn refusals(tally: &Tally, group: usize, first: usize, limit: usize, text: &[u8]) {
-    for number in first..limit {
-        let given = counted(tally, std::num::wrapping_add_usize(group, number));
-        io::print_decimal(1, given as u64);
-        io::write_all(1, text);
-        io::print_decimal(1, number as u64);
-        io::write_all(1, b"\n");
-    }
-}
-
-fn report_steps(tally: &Tally) {
-    line(tally, tally::STEPS, b" steps\n");
-    line(tally, tally::RAN, b" steps of a thread\n");
-    line(tally, tally::IDLE_FOR, b" steps idle for a thread\n");
-    line(tally, tally::IDLE, b" steps idle\n");
-    refusals(tally, tally::STEP_REFUSED, 11, 15, b" steps refused with ");
-}
-
-fn report_tables(tally: &Tally) {
-    line(tally, tally::TABLES, b" legal tables\n");
-    line(tally, tally::THREADS, b" threads in them\n");
-    line(tally, tally::MARKED, b" threads marked\n");
-    line(tally, tally::RUNS, b" runs from a fresh start\n");
-    line(
-        tally,
-        tally::STATES,
-        b" runs from another state that fits\n",
-    );
-}
-
-fn report_damaged_tables(tally: &Tally) {
-    line(
-        tally,
-        tally::DAMAGED_TABLE,
-        b" tables with a wrong number of domains\n",
-    );
-    line(
-        tally,
-        tally::DAMAGED_TABLE + 1,
-        b" tables with a wrong number of threads\n",
-    );
-    line(
-        tally,
-        tally::DAMAGED_TABLE + 2,
-        b" tables with a bit of a row turned\n",
-    );
-    line(
-        tally,
-        tally::DAMAGED_TABLE + 3,
-        b" tables with an unused row not zero\n",
-    );
-    line(
-        tally,
-        tally::DAMAGED_TABLE + 4,
-        b" tables with a priority twice\n",
-    );
-    line(
-        tally,
-        tally::DAMAGED_TABLE + 5,
-        b" tables with a field just past its range\n",
-    );
-    line(
-        tally,
-        tally::DAMAGED_TABLE + 6,
-        b" tables with a field of any value\n",
-    );
-    line(
-        tally,
-        tally::DAMAGED_TABLE + 7,
-        b" tables with an unused place not zero\n",
-    );
-    line(
-        tally,
-        tally::STILL_LEGAL,
-        b" of these tables legal all the same\n",
-    );
-}
-
-fn report_damaged_states(tally: &Tally) {
-    line(
-        tally,
-        tally::DAMAGED_STATE,
-        b" states with a rest above the budget\n",
-    );
-    line(
-        tally,
-        tally::DAMAGED_STATE + 1,
-        b" states with a count above the clock\n",
-    );
-    line(
-        tally,
-        tally::DAMAGED_STATE + 2,
-        b" states with a clock above 1,000,000,000\n",
-    );
-    line(
-        tally,
-        tally::DAMAGED_STATE + 3,
-        b" states with a clock of 1,000,000,000\n",
-    );
-    line(
-        tally,
-        tally::DAMAGED_STATE + 4,
-        b" states with an unused place not zero\n",
-    );
-    line(
-        tally,
-        tally::STILL_FITTING,
-        b" of these states fit all the same\n",
-    );
-}
-
-fn report_views(tally: &Tally) {
-    line(tally, tally::SEEN, b" threads shown to a domain\n");
-    line(tally, tally::GAPS, b" gaps shown to a domain\n");
-    line(tally, tally::NO_VIEW, b" views refused\n");
-}
-
-// Of the second scheduler alone, until crate admission is compared.
-fn report_bounds(tally: &Tally) {
-    line(tally, tally::ADMITTED, b" tables admitted\n");
-    line(tally, tally::NOT_ADMITTED, b" tables not admitted\n");
-    line(tally, tally::PROHIBITED, b" prohibition times\n");
-    line(
-        tally,
-        tally::NO_FIGURE,
-        b" admissions and prohibition times refused\n",
-    );
-}
-
-fn report_bytes(tally: &Tally) {
-    line(tally, tally::READ_BACK, b" tables written and read back\n");
-    line(tally, tally::READ, b" damaged bytes read\n");
-    line(tally, tally::ACCEPTED, b" of them accepted\n");
-    refusals(tally, tally::READ_REFUSED, 1, 11, b" of them refused with ");
+    damaged_tables(tally, part(seed, 10), t);
+    damaged_states(tally, part(seed, 11), t);
 }
 
 fn main() {
-    let mut tally = [0u32; 80];
-    let mut seed: u64 = 1;
-    play_tables(&mut tally, &mut seed, 2000);
-    report_tables(&tally);
-    report_steps(&tally);
-    report_damaged_tables(&tally);
-    report_damaged_states(&tally);
-    report_views(&tally);
-    report_bounds(&tally);
-    report_bytes(&tally);
-    line(&tally, tally::COMPARED, b" comparisons\n");
-    line(&tally, tally::DISAGREED, b" disagreements\n");
+    let mut tally = [0u32; 64];
+    for k in 0..1000u32 {
+        play_table(&mut tally, part(1, k));
+    }
+    report::report(&tally);
 }

@@ -1,17 +1,16 @@
 -- Laws of the rows' bits: a number below 2 ^ 16 has none from 16 on.
 use Prim.Native.Nat.{ℕ, zero, suc, _+_, _*_, _/_, _%_, _^_, _≤_, _<_}
-use mathlib.Core.Path.{_≡_, refl, sym, _∙_, ap}
+use mathlib.Core.Path.{_≡_, sym, _∙_, ap}
 use mathlib.Core.List.{List}
-use mathlib.Core.Bool.{Bool, true, false}
+use mathlib.Core.Bool.{true}
 use native.Mathlib.Omega.{arith}
 use native.Mathlib.Decide.{decLt}
 use native.Mathlib.Nat.{div-lt-iff-lt-mul, div-one, le-refl, min-le-left, min-le-right}
 use lib.Bits.{bitAnd, and-step}
 use lib.Pow.{pow-pos, pow-mono, shr-shr}
-use lib.ListN.{length, getD}
+use lib.ListN.{getD}
 use lib.Dec.{eqb}
 use borrow.Author.Tests.{eqb-true, eqb-false, eq-eqb}
-use Rattle.basis.specs.Tests.{and}
 use Rattle.basis.proofs.TestLaws.{by-test, and-both, and-of}
 use Rattle.flow.specs.Flow.{flows, row-ok}
 

@@ -1,21 +1,19 @@
 -- The search for the first gap says what it should: the first triple in the order of a, then b, then c, or that there is none.
-use Prim.Native.Nat.{ℕ, zero, suc, _+_, _≤_, _<_}
+use Prim.Native.Nat.{ℕ, _<_}
 use mathlib.Core.Path.{_≡_, refl, ap, sym, _∙_}
 use mathlib.Core.Bool.{Bool, true, false, true≢false}
-use mathlib.Core.List.{List, [], _∷_}
-use mathlib.Core.Logic.{_⊎_, inl, inr, ⊎-elim}
+use mathlib.Core.List.{List}
 use native.Mathlib.Omega.{arith}
 use lib.ListN.{getD}
 use native.Mathlib.Decide.{decLt}
 use Rattle.basis.specs.Tests.{pick}
-use Rattle.basis.specs.Search.{Sought, nothing, found, first}
+use Rattle.basis.specs.Search.{Sought, nothing, found}
 use Rattle.basis.specs.Told.{Told}
 use Rattle.basis.proofs.SearchLaws.{first-nothing, first-found, first-all, Found-at}
 use borrow.Author.Tests.{eqb-true, eq-eqb, not-true, not-false}
 use lib.Bits.{bitAnd}
 use lib.Dec.{eqb}
 use Rattle.flow.proofs.FlowLaws.{covered-bit}
-use Rattle.basis.specs.Tests.{and}
 use Rattle.basis.proofs.TestLaws.{refuted, fails, and-both}
 use Rattle.flow.specs.Flow.{flows}
 use Rattle.flow.specs.declared.Gap.{Gap}

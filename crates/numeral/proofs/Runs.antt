@@ -1,14 +1,12 @@
 -- A run of bytes stands in a list between two places; a number is read there exactly where its bytes stand there.
-use Prim.Native.Nat.{ℕ, zero, suc, _+_, _≤_, _<_}
-use mathlib.Core.Path.{_≡_, refl, ap, sym, _∙_, subst}
-use mathlib.Core.List.{List, [], _∷_, _++_, append-assoc, append-nil}
+use Prim.Native.Nat.{ℕ, _+_, _<_}
+use mathlib.Core.Path.{_≡_, refl, sym, _∙_, subst}
+use mathlib.Core.List.{List, [], _++_, append-assoc, append-nil}
 use native.Mathlib.Omega.{arith}
-use native.Mathlib.Nat.{add-zero}
-use lib.ListN.{length, getD, take, drop, length-append}
+use lib.ListN.{length, drop, length-append}
 use lib.Seq.{drop-append-seam, drop-drop, drop-length}
-use Rattle.numeral.specs.declared.Number.{Number}
-use Rattle.numeral.specs.declared.Number.the-variants.{Value, Refused}
-use Rattle.numeral.specs.Number.{number-at, number, encode}
+use Rattle.numeral.specs.declared.Number.the-variants.{Value}
+use Rattle.numeral.specs.Number.{number-at, encode}
 use Rattle.numeral.specs.NumberRules.{Bytes, Stands}
 use Rattle.numeral.proofs.NumberLaws.{number-at-back, number-encode}
 

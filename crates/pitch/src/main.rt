@@ -1,6 +1,5 @@
 // The pitch loop's story, step by step, and random drives against a second actuator that is written apart.
 mod play;
-mod second;
 mod story;
 mod text;
 

@@ -1,33 +1,29 @@
 // Random drives, some of them damaged, each compared with what the second actuator gives.
-ghost use Prim.Native.Nat.{_≤_};
-use super::second::agrees;
-use super::second::told;
 use super::story::bench;
 use super::story::task;
 use super::text::number;
 use super::text::say;
 use actuator::Actuator;
+use actuator::Driven;
+use dice::below;
+use dice::below8;
+use dice::part;
+use dice::seldom;
+use rival_actuator::agrees;
+use same::outcome_number;
 use scheduler::State;
-use std::num::wrapping_add_u64;
 use table::Table;
 
-// The next of a fixed row of random numbers.
-fn roll(x: u64) -> u64 {
-    let a = x ^ (x << 13);
-    let b = a ^ (a >> 7);
-    b ^ (b << 17)
-}
-
 // A command: an end of its type, an end of the range, one beyond it, or some number near the range.
-fn command(dice: u64) -> i64 {
-    match dice % 12 {
+fn command(seed: u64) -> i64 {
+    match below(seed, 1, 12) {
         0 => -9223372036854775808,
         1 => 9223372036854775807,
         2 => -5001,
         3 => -5000,
         4 => 95000,
         5 => 95001,
-        _ => near(dice >> 8),
+        _ => near(part(seed, 2)),
     }
 }
 
@@ -37,13 +33,13 @@ fn near(dice: u64) -> i64 {
 }
 
 // A start position: an end of its type, one beyond the range, or some number of the range.
-fn place(dice: u64) -> i32 {
-    match dice % 96 {
+fn place(seed: u64) -> i32 {
+    match below(seed, 3, 96) {
         0 => -2147483648,
         1 => 2147483647,
         2 => -5001,
         3 => 95001,
-        _ => within(dice >> 8),
+        _ => within(part(seed, 4)),
     }
 }
 
@@ -52,22 +48,22 @@ fn within(dice: u64) -> i32 {
     (dice % 100001) as i32 - 5000
 }
 
-fn rate(dice: u64) -> u32 {
-    match dice % 64 {
+fn rate(seed: u64) -> u32 {
+    match below(seed, 5, 64) {
         0 => 0,
         1 => 1001,
         2 => 4294967295,
         3 => 1,
         4 => 1000,
-        _ => 1 + ((dice >> 8) % 1000) as u32,
+        _ => 1 + below(seed, 6, 1000) as u32,
     }
 }
 
-fn thread(dice: u64) -> u8 {
-    match dice % 96 {
+fn thread(seed: u64) -> u8 {
+    match below(seed, 7, 96) {
         0 => 3,
         1 => 255,
-        _ => ((dice >> 8) % 3) as u8,
+        _ => below8(seed, 8, 3),
     }
 }
 
@@ -88,23 +84,23 @@ fn example() -> Table {
     }
 }
 
-fn table(dice: u64) -> Table {
-    if dice % 3 == 0 {
+fn table(seed: u64) -> Table {
+    if seldom(seed, 9, 3) {
         return example();
     }
     bench()
 }
 
 // What is damaged in a call: nothing (0) in three of four.
-fn harm(dice: u64) -> u64 {
-    if dice % 4 != 0 {
+fn harm(seed: u64) -> u16 {
+    if !seldom(seed, 10, 4) {
         return 0;
     }
-    1 + (dice >> 8) % 16
+    std::num::wrapping_add_u16(1, below(seed, 11, 16))
 }
 
 // 1 and 2: a table without threads, and one whose first domain does not flow to itself.
-fn harmed_table(t: Table, harm: u64) -> Table {
+fn harmed_table(t: Table, harm: u16) -> Table {
     let mut h = t;
     if harm == 1 {
         h.count = 0;
@@ -116,44 +112,33 @@ fn harmed_table(t: Table, harm: u64) -> Table {
 }
 
 // 3, 4 and 5: a clock past the last, an unused place that is not zero, and the last clock; 16 too, with the rate.
-fn harmed_state(s: State, harm: u64) -> State {
+fn harmed_state(s: State, harm: u16) -> State {
     let mut h = s;
-    if harm == 3 {
-        h.clock = 1000000001;
-    }
-    if harm == 4 {
-        h.threads[31].rest = 1;
-    }
-    if harm == 5 {
-        h.clock = 1000000000;
-    }
-    if harm == 16 {
-        h.clock = 1000000000;
+    match harm {
+        3 => h.clock = 1000000001,
+        4 => h.threads[31].rest = 1,
+        5 | 16 => h.clock = 1000000000,
+        _ => {}
     }
     h
 }
 
 // 6 and 7: no byte, and a byte too many; 15 too, with the thread.
-fn length(count: u8, harm: u64) -> usize
-    ensures { λ r. ⌜ r ≤ 4 ⌝ }
-{
-    if harm == 6 {
-        return 0;
+fn length(count: u8, harm: u16) -> usize {
+    match harm {
+        6 => 0,
+        7 | 15 => 4,
+        _ => {
+            if count == 2 {
+                return 2;
+            }
+            3
+        }
     }
-    if harm == 7 {
-        return 4;
-    }
-    if harm == 15 {
-        return 4;
-    }
-    if count == 2 {
-        return 2;
-    }
-    3
 }
 
 // 8: no such thread; 14 and 15 too.
-fn harmed_thread(thread: u8, harm: u64) -> u8 {
+fn harmed_thread(thread: u8, harm: u16) -> u8 {
     match harm {
         8 | 14 | 15 => 200,
         _ => thread,
@@ -161,7 +146,7 @@ fn harmed_thread(thread: u8, harm: u64) -> u8 {
 }
 
 // 9: a rate of 0; 16 too. 14 and 15: one too many.
-fn harmed_rate(rate: u32, harm: u64) -> u32 {
+fn harmed_rate(rate: u32, harm: u16) -> u32 {
     match harm {
         9 | 16 => 0,
         14 | 15 => 1001,
@@ -170,7 +155,7 @@ fn harmed_rate(rate: u32, harm: u64) -> u32 {
 }
 
 // 10 and 11: one beyond an end.
-fn harmed_position(z: i32, harm: u64) -> i32 {
+fn harmed_position(z: i32, harm: u16) -> i32 {
     match harm {
         10 => -5001,
         11 => 95001,
@@ -179,7 +164,7 @@ fn harmed_position(z: i32, harm: u64) -> i32 {
 }
 
 // 12 and 13: one beyond an end, and an end of the type.
-fn harmed_command(z: i32, harm: u64) -> i32 {
+fn harmed_command(z: i32, harm: u16) -> i32 {
     match harm {
         12 => 95001,
         13 => -2147483648,
@@ -187,7 +172,7 @@ fn harmed_command(z: i32, harm: u64) -> i32 {
     }
 }
 
-fn harmed_actuator(a: Actuator, harm: u64) -> Actuator {
+fn harmed_actuator(a: Actuator, harm: u16) -> Actuator {
     Actuator {
         position: harmed_position(a.position, harm),
         command: harmed_command(a.command, harm),
@@ -196,9 +181,9 @@ fn harmed_actuator(a: Actuator, harm: u64) -> Actuator {
     }
 }
 
-// A byte of a thread: mostly run, else wait, finish or a strange one.
-fn byte(dice: u64) -> u8 {
-    match dice % 8 {
+// The byte of thread i: mostly run, else wait, finish or a strange one.
+fn byte(seed: u64, i: u32) -> u8 {
+    match below(part(seed, 12), i, 8) {
         0 => 0,
         1 => 2,
         2 => 3,
@@ -206,53 +191,54 @@ fn byte(dice: u64) -> u8 {
     }
 }
 
-// How many drives gave each number, how many took a command, and how many were not as expected.
-struct Tally {
-    moved: u64,
-    heard: u64,
-    n11: u64,
-    n12: u64,
-    n13: u64,
-    n14: u64,
-    n15: u64,
-    n20: u64,
-    wrong: u64,
+// How many drives moved, were refused with each number, took a command, and were not as expected.
+type Tally = [u32; 32];
+
+const MOVED: u32 = 0;
+
+const HEARD: u32 = 30;
+
+const WRONG: u32 = 31;
+
+fn more(tally: Tally, kind: u32) -> Tally {
+    let mut next = tally;
+    let k = kind as usize % 32;
+    next[k] = std::num::wrapping_add_u32(tally[k], 1);
+    next
 }
 
-fn nothing() -> Tally {
-    Tally {
-        moved: 0,
-        heard: 0,
-        n11: 0,
-        n12: 0,
-        n13: 0,
-        n14: 0,
-        n15: 0,
-        n20: 0,
-        wrong: 0,
+// By the number of the outcome, which is 1,000 and more where the drive was refused.
+fn counted(tally: Tally, number: u32, thread: u8, good: bool) -> Tally {
+    if !good {
+        return more(tally, WRONG);
     }
+    if number >= 1000 {
+        return more(tally, std::num::wrapping_sub_u32(number, 1000));
+    }
+    if number == thread as u32 {
+        return more(more(tally, MOVED), HEARD);
+    }
+    more(tally, MOVED)
 }
 
-// One more if the test holds.
-fn more(n: u64, test: bool) -> u64 {
-    if test {
-        return wrapping_add_u64(n, 1);
-    }
-    n
+// A drive, and whether it agrees with the second actuator.
+struct Drive {
+    driven: Driven,
+    good: bool,
 }
 
-fn counted(c: Tally, told: u32, thread: u8, good: bool) -> Tally {
-    Tally {
-        moved: more(c.moved, told < 1000),
-        heard: more(c.heard, told == thread as u32),
-        n11: more(c.n11, told == 1011),
-        n12: more(c.n12, told == 1012),
-        n13: more(c.n13, told == 1013),
-        n14: more(c.n14, told == 1014),
-        n15: more(c.n15, told == 1015),
-        n20: more(c.n20, told == 1020),
-        wrong: more(c.wrong, !good),
+fn both(t: Table, s: State, a: Actuator, bytes: &[u8], command: i64) -> Drive {
+    let driven = actuator::drive(t, s, a, bytes, command);
+    let good = agrees(driven, t, s, a, bytes, command);
+    Drive { driven, good }
+}
+
+// On the first n bytes.
+fn both_on(t: Table, s: State, a: Actuator, bytes: &[u8], n: usize, command: i64) -> Drive {
+    if n <= bytes.len() {
+        return both(t, s, a, &bytes[..n], command);
     }
+    both(t, s, a, bytes, command)
 }
 
 // A run under way, and what was counted so far.
@@ -262,22 +248,25 @@ struct Game {
     actuator: Actuator,
 }
 
-// One call, by two random numbers. A damaged call is made beside the run, which goes on from where it was.
-fn round(t: Table, g: Game, dice: u64, next: u64) -> Game {
+// One call. A damaged call is made beside the run, which goes on from where it was.
+fn round(t: Table, g: Game, seed: u64) -> Game {
     let c = g.tally;
     let s = g.state;
     let a = g.actuator;
-    let h = harm(dice >> 3);
-    let bytes = [byte(dice >> 10), byte(dice >> 20), byte(dice >> 30), 1];
-    let n = length(t.count, h);
-    let x = command(next);
-    let u = harmed_table(t, h);
-    let r = harmed_state(s, h);
+    let h = harm(seed);
+    let bytes = [byte(seed, 0), byte(seed, 1), byte(seed, 2), 1];
     let b = harmed_actuator(a, h);
-    let d = actuator::drive(u, r, b, &bytes[..n], x);
-    let good = agrees(d, u, r, b, &bytes[..n], x);
-    let o = d.outcome;
-    let tally = counted(c, told(o), b.thread, good);
+    let d = both_on(
+        harmed_table(t, h),
+        harmed_state(s, h),
+        b,
+        &bytes,
+        length(t.count, h),
+        command(seed),
+    );
+    let r = d.driven;
+    let o = r.outcome;
+    let tally = counted(c, outcome_number(o), b.thread, d.good);
     if h != 0 {
         return Game {
             tally,
@@ -285,8 +274,8 @@ fn round(t: Table, g: Game, dice: u64, next: u64) -> Game {
             actuator: a,
         };
     }
-    let state = d.state;
-    let actuator = d.actuator;
+    let state = r.state;
+    let actuator = r.actuator;
     Game {
         tally,
         state,
@@ -295,62 +284,49 @@ fn round(t: Table, g: Game, dice: u64, next: u64) -> Game {
 }
 
 // A run of 30 calls.
-fn play(tally: Tally, a: Actuator, seed: u64) -> Tally {
-    let t = table(seed >> 20);
+fn play(tally: Tally, seed: u64) -> Tally {
+    let t = table(seed);
     let state = scheduler::fresh();
+    let actuator = actuator::start(place(seed), rate(seed), thread(seed));
     let mut g = Game {
         tally,
         state,
-        actuator: a,
+        actuator,
     };
-    let mut dice = seed;
-    let mut k: u32 = 0;
-    while k < 30 {
-        dice = roll(dice);
-        let next = roll(dice);
-        g = round(t, g, dice, next);
-        dice = next;
-        k += 1;
+    for k in 0..30u32 {
+        g = round(t, g, part(seed, k));
     }
     g.tally
 }
 
-// An actuator by three random numbers.
-fn some_actuator(seed: u64) -> Actuator {
-    let p = roll(seed);
-    let v = roll(p);
-    let i = roll(v);
-    actuator::start(place(p), rate(v), thread(i))
+fn wide(n: u32) -> u64 {
+    n as u64
 }
 
-fn item(name: &[u8], n: u64) {
+fn item(tally: Tally, kind: u32, name: &[u8]) {
     say(name);
-    number(n);
+    number(wide(tally[kind as usize % 32]));
 }
 
-fn report(c: Tally) {
-    item(b"against a second actuator: moved ", c.moved);
-    item(b", a command taken ", c.heard);
-    item(b"\nrefused with 11: ", c.n11);
-    item(b", 12: ", c.n12);
-    item(b", 13: ", c.n13);
-    item(b", 14: ", c.n14);
-    item(b", 15: ", c.n15);
-    item(b", 20: ", c.n20);
+fn report(tally: Tally) {
+    item(tally, MOVED, b"against a second actuator: moved ");
+    item(tally, HEARD, b", a command taken ");
+    item(tally, 11, b"\nrefused with 11: ");
+    item(tally, 12, b", 12: ");
+    item(tally, 13, b", 13: ");
+    item(tally, 14, b", 14: ");
+    item(tally, 15, b", 15: ");
+    item(tally, 20, b", 20: ");
+    item(tally, WRONG, b"\ndisagreements: ");
     say(b"\n");
-    number(c.wrong);
-    say(b" disagreements\n");
 }
 
 // 600 runs of 30 drives.
 pub fn compare() {
-    let mut c = nothing();
-    let mut dice: u64 = 88172645463325252;
-    let mut run: u32 = 0;
-    while run < 600 {
-        dice = roll(roll(roll(roll(dice))));
-        c = play(c, some_actuator(dice), dice);
-        run += 1;
+    let mut tally = [0u32; 32];
+    for run in 0..600u32 {
+        let next = play(tally, part(4, run));
+        tally = next;
     }
-    report(c);
+    report(tally);
 }

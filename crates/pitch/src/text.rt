@@ -1,6 +1,6 @@
 // What is printed.
-use super::second::height;
-use super::second::wide;
+use rival_actuator::height;
+use rival_actuator::wide;
 
 pub fn say(text: &[u8]) {
     io::write_all(1, text);

@@ -1,8 +1,8 @@
 -- Reading a table: a number is read and then judged, and after a refusal nothing more is read, so that the leftmost fault wins.
 use Prim.Native.Nat.{ℕ, zero, suc}
 use mathlib.Core.List.{List, [], _∷_}
-use mathlib.Core.Bool.{Bool, true, false, not}
-use lib.ListN.{length, getD, set, replicate}
+use mathlib.Core.Bool.{Bool, not}
+use lib.ListN.{length, set, replicate}
 use lib.Dec.{eqb, ltb}
 use Rattle.basis.specs.Tests.{pick, or}
 use Rattle.basis.specs.Search.{Sought, nothing, found}

@@ -1,30 +1,19 @@
-// A second scheduler, written from document 01 alone, for the first to be played against. It shares types with the first
-// and no function. It looks up who holds each priority, keeps the relation as sets of bits, and tells the time by when a
-// thread was last released.
-mod bounds;
+// A second scheduler, written from document 01 alone, for the first to be played against. It shares types with the first, and
+// neither a function nor a definition. It tells the time by when a thread was last released.
 mod fit;
-mod judge;
-mod leak;
-mod relation;
-mod seats;
 mod sight;
 mod time;
 mod walk;
 
-pub use bounds::Admission;
-pub use bounds::Admitted;
-pub use bounds::Prohibition;
-pub use bounds::admit;
-pub use bounds::prohibition_time;
-pub use fit::fits;
-pub use judge::legal;
+use fit::fits;
+use rival_table::legal;
 use scheduler::Outcome;
 use scheduler::State;
 use scheduler::Stepped;
+pub use sight::GAP;
+pub use sight::showing;
 pub use sight::shown;
-pub use sight::shown_state;
-use table::Marked;
-use table::Marking;
+pub use sight::threads_shown;
 use table::Table;
 
 fn refused(number: u8, s: State) -> Stepped {
@@ -51,23 +40,9 @@ pub fn step(t: Table, s: State, bytes: &[u8]) -> Stepped {
     let end = walk::walk(t, time::release(t, s), bytes);
     let answer = end.answer;
     let mut next = end.state;
-    next.clock = s.clock + 1;
+    next.clock = std::num::wrapping_add_u32(s.clock, 1);
     Stepped {
         outcome: Outcome::Chose(answer),
         state: next,
-    }
-}
-
-// The leak mark of each thread.
-pub fn marks(t: Table) -> Marked {
-    if !legal(t) {
-        return Marked {
-            answer: Marking::NotLegal,
-            marks: [false; 32],
-        };
-    }
-    Marked {
-        answer: Marking::Done,
-        marks: leak::leaks(t),
     }
 }

@@ -1,78 +1,65 @@
-// What a domain is shown.
+// What a domain is shown, in numbers.
 use crate::fit::fits;
-use crate::judge::legal;
-use crate::relation::flows;
+use rival_table::flows;
+use rival_table::legal;
 use scheduler::Answer;
 use scheduler::Progress;
 use scheduler::State;
-use sight::Showing;
-use sight::ShownState;
-use sight::View;
 use table::Table;
 
+pub const GAP: u32 = 512;
+
 // Whether i is a thread of the table and its domain may flow to this one.
-fn is_seen(t: Table, domain: u8, i: usize) -> bool {
-    if i >= 32 {
-        return false;
-    }
-    if i >= t.count as usize {
-        return false;
-    }
-    let f = t.threads[i];
-    flows(t, f.domain, domain)
+fn is_seen(t: Table, domain: u8, i: u8) -> bool {
+    let rows = t.rows;
+    let f = t.threads[i as usize % 32];
+    (i < t.count) & flows(rows, f.domain, domain)
 }
 
-// A thread that ran, to those who may know; else a gap.
-pub fn shown(t: Table, domain: u8, answer: Answer) -> View {
+// A thread that ran, to those who may know; else a gap; 1,000 and the number of a refusal.
+pub fn shown(t: Table, domain: u8, answer: Answer) -> u32 {
     if !legal(t) {
-        return View::NotLegal;
+        return 1011;
     }
     if domain >= t.domains {
-        return View::NoDomain;
+        return 1015;
     }
     let Answer::Ran(i) = answer else {
-        return View::Gap;
+        return GAP;
     };
-    if is_seen(t, domain, i as usize) {
-        return View::Thread(i);
+    if is_seen(t, domain, i) {
+        return i as u32;
     }
-    View::Gap
+    GAP
 }
 
-fn nothing() -> Progress {
-    Progress {
+// The number of a refusal, or 0.
+pub fn showing(t: Table, s: State, domain: u8) -> u32 {
+    if !legal(t) {
+        return 1011;
+    }
+    if !fits(t, s) {
+        return 1012;
+    }
+    if domain >= t.domains {
+        return 1015;
+    }
+    0
+}
+
+// The rest, mark and count of each thread that the domain may see, and zeros for the others and on a refusal.
+pub fn threads_shown(t: Table, s: State, domain: u8) -> [Progress; 32] {
+    let refused = showing(t, s, domain) != 0;
+    let none = Progress {
         rest: 0,
         finished: false,
         ran: 0,
-    }
-}
-
-fn not_shown(answer: Showing) -> ShownState {
-    ShownState {
-        answer,
-        threads: [nothing(); 32],
-    }
-}
-
-// The rest, mark and count of each thread that the domain may see.
-pub fn shown_state(t: Table, s: State, domain: u8) -> ShownState {
-    if !legal(t) {
-        return not_shown(Showing::NotLegal);
-    }
-    if !fits(t, s) {
-        return not_shown(Showing::NotFitting);
-    }
-    if domain >= t.domains {
-        return not_shown(Showing::NoDomain);
-    }
+    };
     let mut threads = s.threads;
-    for i in 0..32 {
-        if !is_seen(t, domain, i) {
-            threads[i] = nothing();
+    for i in 0..32u8 {
+        if refused | !is_seen(t, domain, i) {
+            threads[i as usize % 32] = none;
         }
     }
-    ShownState {
-        answer: Showing::Done,
-        threads,
-    }
+    threads
 }

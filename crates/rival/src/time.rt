@@ -1,14 +1,11 @@
 // Release, by when a thread was last released.
-ghost use Prim.Native.Nat.{_≤_};
 use scheduler::Progress;
 use scheduler::State;
 use table::Table;
 use table::Thread;
 
 // As many whole periods as fit into a length, in steps.
-fn whole(length: u32, period: u32) -> u32
-    ensures { λ r. ⌜ r ≤ length ⌝ }
-{
+fn whole(length: u32, period: u32) -> u32 {
     if period == 0 {
         return 0;
     }
@@ -16,47 +13,38 @@ fn whole(length: u32, period: u32) -> u32
 }
 
 // When thread f was last released, at a clock not before O: whole periods after O.
-fn last_release(f: Thread, now: u32) -> u64
-    ensures { λ r. ⌜ r ≤ 4294967296 ⌝ }
-{
+fn last_release(f: Thread, now: u32) -> u32 {
     let first = f.offset as u32;
-    if now < first {
-        return first as u64;
-    }
-    first as u64 + whole(now - first, f.period as u32) as u64
+    std::num::wrapping_add_u32(
+        first,
+        whole(std::num::wrapping_sub_u32(now, first), f.period as u32),
+    )
 }
 
 // A release sets the rest and clears the finish mark; D steps after it the rest is lost.
 fn released(f: Thread, p: Progress, now: u32) -> Progress {
+    let mut next = p;
     if now < f.offset as u32 {
-        return p;
+        return next;
     }
     let last = last_release(f, now);
-    if last == now as u64 {
-        return Progress {
-            rest: f.budget,
-            finished: false,
-            ran: p.ran,
-        };
+    if std::num::wrapping_add_u32(last, f.deadline as u32) <= now {
+        next.rest = 0;
     }
-    if last + f.deadline as u64 <= now as u64 {
-        return Progress {
-            rest: 0,
-            finished: p.finished,
-            ran: p.ran,
-        };
+    if last == now {
+        next.rest = f.budget;
+        next.finished = false;
     }
-    p
+    next
 }
 
 pub fn release(t: Table, s: State) -> State {
+    let count = t.count;
     let mut next = s;
-    for i in 0..32 {
-        if i < t.count as usize {
-            let f = t.threads[i];
-            let p = s.threads[i];
-            next.threads[i] = released(f, p, s.clock);
-        }
+    for i in 0..count {
+        let f = t.threads[i as usize % 32];
+        let p = s.threads[i as usize % 32];
+        next.threads[i as usize % 32] = released(f, p, s.clock);
     }
     next
 }

@@ -1,7 +1,7 @@
-// The walk, by falling priority, seat by seat.
-use crate::leak::leaks;
-use crate::seats::NOBODY;
-use crate::seats::seated;
+// The walk, by falling priority.
+use rival_table::NOBODY;
+use rival_table::leaks;
+use rival_table::order;
 use scheduler::Answer;
 use scheduler::Progress;
 use scheduler::State;
@@ -15,101 +15,65 @@ pub struct Turn {
 }
 
 // The byte of thread i.
-fn byte_of(bytes: &[u8], i: usize) -> u8 {
-    if i < bytes.len() { bytes[i] } else { 0 }
+fn byte_of(bytes: &[u8], i: u8) -> u8 {
+    let at = i as usize;
+    if at < bytes.len() { bytes[at] } else { 0 }
 }
 
 // A reached thread pays one, and a 2 sets its finish mark.
 fn paid(p: Progress, byte: u8) -> Progress {
-    let mut next = p;
-    if p.rest > 0 {
-        next.rest = p.rest - 1;
-    }
-    if byte == 2 {
-        next.finished = true;
-    }
-    next
-}
-
-// After it has paid: 1 is run, unless the finish mark is set.
-fn runs(p: Progress, byte: u8) -> bool {
-    if p.finished {
-        return false;
-    }
-    byte == 1
-}
-
-// A count is at most the clock, so it never wraps.
-fn counted(p: Progress) -> Progress {
     Progress {
-        rest: p.rest,
-        finished: p.finished,
-        ran: std::num::wrapping_add_u32(p.ran, 1),
+        rest: std::num::wrapping_sub_u16(p.rest, 1),
+        finished: p.finished | (byte == 2),
+        ran: p.ran,
     }
 }
 
-fn put(s: State, i: usize, p: Progress) -> State {
+// The walk ends at thread i, or goes on below it.
+fn after(s: State, i: u8, p: Progress, over: bool, answer: Answer) -> Turn {
     let mut next = s;
-    if i < 32 {
-        next.threads[i] = p;
+    next.threads[i as usize % 32] = p;
+    Turn {
+        over,
+        answer,
+        state: next,
     }
-    next
 }
 
-// Thread i is reached with a rest above 0.
-fn reach(s: State, i: u8, p: Progress, byte: u8, leaks: bool) -> Turn {
-    let after = paid(p, byte);
-    if runs(after, byte) {
-        return Turn {
-            over: true,
-            answer: Answer::Ran(i),
-            state: put(s, i as usize, counted(after)),
-        };
+// Thread i is reached with a rest above 0: a 1 runs, unless the finish mark is set.
+fn reach(s: State, i: u8, byte: u8, leaks: bool) -> Turn {
+    let mut p = paid(s.threads[i as usize % 32], byte);
+    if (byte == 1) & !p.finished {
+        p.ran = std::num::wrapping_add_u32(p.ran, 1);
+        return after(s, i, p, true, Answer::Ran(i));
     }
     if leaks {
-        return Turn {
-            over: true,
-            answer: Answer::IdleFor(i),
-            state: put(s, i as usize, after),
-        };
+        return after(s, i, p, true, Answer::IdleFor(i));
     }
-    Turn {
-        over: false,
-        answer: Answer::Idle,
-        state: put(s, i as usize, after),
-    }
+    after(s, i, p, false, Answer::Idle)
 }
 
 // The walk comes to thread i: it passes a rest of 0, and goes no further once somebody is chosen.
-fn come(turn: Turn, i: u8, bytes: &[u8], marks: [bool; 32]) -> Turn {
-    let place = i as usize;
-    if turn.over {
-        return turn;
+fn come(now: Turn, i: u8, bytes: &[u8], leaks: bool) -> Turn {
+    let s = now.state;
+    let p = s.threads[i as usize % 32];
+    if now.over | (i == NOBODY) | (p.rest == 0) {
+        return now;
     }
-    if place >= 32 {
-        return turn;
-    }
-    let s = turn.state;
-    let p = s.threads[place];
-    if p.rest == 0 {
-        return turn;
-    }
-    reach(s, i, p, byte_of(bytes, place), marks[place])
+    reach(s, i, byte_of(bytes, i), leaks)
 }
 
 pub fn walk(t: Table, s: State, bytes: &[u8]) -> Turn {
-    let seats = seated(t);
-    let marks = leaks(t);
-    let mut turn = Turn {
+    let by_priority = order(t);
+    let marks = leaks(t, by_priority);
+    let mut now = Turn {
         over: false,
         answer: Answer::Idle,
         state: s,
     };
-    for lower in 0..256 {
-        let i = seats.at[255 - lower];
-        if i != NOBODY {
-            turn = come(turn, i, bytes, marks);
-        }
+    for k in 0..32usize {
+        let i = by_priority[k];
+        now = come(now, i, bytes, marks[i as usize % 32]);
     }
-    turn
+    now
 }

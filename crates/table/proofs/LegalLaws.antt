@@ -1,25 +1,24 @@
 -- The test of a table passes exactly the legal tables. Between the two stand the test's parts, each taken apart once.
-use Prim.Native.Nat.{ℕ, zero, suc, _+_, _≤_, _<_}
-use mathlib.Core.Path.{_≡_, refl, sym, _∙_, ap}
-use mathlib.Core.Bool.{Bool, true, false, not, true≢false, false≢true}
+use Prim.Native.Nat.{ℕ, _≤_, _<_}
+use mathlib.Core.Path.{_≡_, refl, sym}
+use mathlib.Core.Bool.{true, false, not, false≢true}
 use mathlib.Core.List.{List}
 use native.Mathlib.Omega.{arith}
 use native.Mathlib.Decide.{decLt}
-use lib.ListN.{length, getD, List·getD-eq-default}
+use lib.ListN.{getD, List·getD-eq-default}
 use lib.Dec.{eqb, ltb}
-use borrow.Author.Tests.{eqb-true, eqb-false, eq-eqb, ne-eqb, lt-ltb, le-ltb, not-true, ltb-true, ltb-false}
-use Rattle.basis.specs.Tests.{pick, and, every}
+use borrow.Author.Tests.{eqb-true, eqb-false, eq-eqb, lt-ltb, le-ltb, not-true, ltb-true, ltb-false}
+use Rattle.basis.specs.Tests.{pick, every}
 use Rattle.basis.specs.Search.{Sought, nothing, found}
-use Rattle.basis.proofs.TestLaws.{by-test, refuted, fails, and-both, every-at, every-all, some-false, some-found, Passing}
-use Rattle.flow.specs.Flow.{flows, row-ok}
-use Rattle.flow.specs.Gap.{Triple, broken, first-gap}
+use Rattle.basis.proofs.TestLaws.{by-test, fails, and-both, every-at, every-all, some-false, some-found, Passing}
+use Rattle.flow.specs.Flow.{row-ok}
+use Rattle.flow.specs.Gap.{Triple, first-gap}
 use Rattle.flow.proofs.FlowLaws.{row-known, row-own, row-of}
 use Rattle.flow.proofs.GapLaws.{gap-nothing, no-gap, whole-flows, flows-whole}
 use Rattle.table.specs.Threads.{none, thread}
 use Rattle.table.specs.Ranges.{within, domain-counts, thread-counts}
-use Rattle.table.specs.Legal.{row-legal, is-nothing, thread-ok, taken, place-legal, legal, Sized, Legal, Legal-thread}
+use Rattle.table.specs.Legal.{row-legal, is-nothing, thread-ok, taken, place-legal, legal, Sized, Legal}
 use Rattle.table.specs.declared.Table.{Table}
-use Rattle.table.specs.declared.Thread.{Thread}
 use Rattle.table.proofs.RangeLaws.{within-low, within-high, within-is, thread-of-test, test-of-thread, none-of-test, none-passes}
 
 -- The parts of the test, at each row and each thread place.

@@ -1,19 +1,17 @@
 -- The mark says exactly that a thread leaks, `marks` gives these marks, and no second answer fits it.
 use Prim.Native.Nat.{ℕ, _-_, _≤_, _<_}
 use mathlib.Core.Path.{_≡_, refl, sym, _∙_, ap}
-use mathlib.Core.Bool.{Bool, true, false}
-use mathlib.Core.List.{List, _++_}
+use mathlib.Core.Bool.{true, false}
 use mathlib.Core.Logic.{_↔_}
 use native.Mathlib.Omega.{arith}
 use lib.ListN.{length, getD, replicate, length-append, length-replicate}
 use borrow.Author.Tests.{ltb-true, lt-ltb}
-use Rattle.basis.specs.Tests.{pick, some}
+use Rattle.basis.specs.Tests.{pick}
 use Rattle.basis.specs.Search.{listed}
 use Rattle.basis.specs.Told.{Told}
 use Rattle.basis.proofs.TestLaws.{by-test, joined, some-found, some-hit, Passing}
 use Rattle.basis.proofs.SearchLaws.{length-listed, listed-at, listed-past}
 use Rattle.basis.proofs.ListLaws.{all-alike}
-use Rattle.table.specs.Threads.{thread}
 use Rattle.table.specs.Legal.{legal}
 use Rattle.table.specs.Mark.{seen-by, hidden-below, marked, marks-of, told, marking, marks-given, Leaks}
 use Rattle.table.specs.declared.Table.{Table}

@@ -1,14 +1,14 @@
 -- Laws of the ranges: what it is to be within one, and that a thread's fields are in theirs exactly where its plain ranges hold.
 use Prim.Native.Nat.{ℕ, zero, suc, _+_, _-_, _≤_, _<_}
 use mathlib.Core.Path.{_≡_, refl, sym, _∙_, ap}
-use mathlib.Core.Bool.{Bool, true, false}
+use mathlib.Core.Bool.{true}
 use mathlib.Core.List.{List}
 use native.Mathlib.Omega.{arith}
 use lib.ListN.{length, getD, replicate, getD-replicate}
 use lib.Seq.{ext-getD}
-use lib.Dec.{eqb, ltb, leb}
+use lib.Dec.{ltb, leb}
 use borrow.Author.Tests.{leb-true, ltb-true, le-leb, lt-ltb, eqb-true}
-use Rattle.basis.specs.Tests.{and, every}
+use Rattle.basis.specs.Tests.{every}
 use Rattle.basis.specs.Search.{listed}
 use Rattle.basis.proofs.TestLaws.{and-both, every-at}
 use Rattle.basis.proofs.ListLaws.{each-at}

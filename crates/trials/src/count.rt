@@ -1,5 +1,4 @@
-// What admission answers, held against the plain computation and counted.
-use super::plain;
+// What admission answers, held against the plain search and counted.
 use admission::Admitting;
 use admission::Bound;
 use admission::ProhibitionTime;
@@ -11,6 +10,7 @@ pub struct Tally {
     pub refused: u32,
     pub found: u32,
     pub none: u32,
+    pub no_thread: u32,
     pub prohibited: u32,
     pub worst: u32,
     pub wrong: u32,
@@ -23,36 +23,22 @@ pub fn none_yet() -> Tally {
         refused: 0,
         found: 0,
         none: 0,
+        no_thread: 0,
         prohibited: 0,
         worst: 0,
         wrong: 0,
     }
 }
 
-// One more where it is so; no count comes near the limit.
+// One more where it is so.
 fn more_if(n: u32, so: bool) -> u32 {
     if so {
-        if n < 4000000000 {
-            return n + 1;
-        }
+        return std::num::wrapping_add_u32(n, 1);
     }
     n
 }
 
-fn larger(a: u32, b: u32) -> u32 {
-    if a < b {
-        return b;
-    }
-    a
-}
-
-fn judged(y: Tally, ok: bool) -> Tally {
-    let mut z = y;
-    z.wrong = more_if(z.wrong, !ok);
-    z
-}
-
-// An answer as a number: the thread without a bound, 32 where the table is admitted, 33 where it is refused.
+// The first thread without a bound, 32 where the table is admitted, 33 where it is refused.
 fn admit_number(a: Admitting) -> u8 {
     match a {
         Admitting::Admitted => 32,
@@ -83,95 +69,66 @@ fn time_number(t: Table, l: u8) -> u64 {
 }
 
 fn same(a: [u16; 32], b: [u16; 32]) -> bool {
+    let mut same = true;
     for i in 0..32usize {
-        if a[i] != b[i] {
-            return false;
-        }
+        same = same & (a[i] == b[i]);
     }
-    true
-}
-
-// The first of so many places that holds 0, or 32.
-fn first_zero(a: [u16; 32], count: u8) -> u8 {
-    for i in 0..count {
-        if a[i as usize % 32] == 0 {
-            return i;
-        }
-    }
-    32
-}
-
-// The answer and all bounds of one admission, as they should be.
-fn admits(t: Table, number: u8, bounds: [u16; 32]) -> bool {
-    let r = admission::admit(t);
-    let a = r.answer;
-    let given = r.bounds;
-    if admit_number(a) == number {
-        return same(given, bounds);
-    }
-    false
-}
-
-// A table that is admitted has all bounds, one that is not has the first thread without one and no bounds.
-fn judge_admission(y: Tally, t: Table, bounds: [u16; 32]) -> Tally {
-    let first = first_zero(bounds, t.count);
-    let mut z = y;
-    z.admitted = more_if(z.admitted, first == 32);
-    z.without = more_if(z.without, first != 32);
-    if first == 32 {
-        return judged(z, admits(t, 32, bounds));
-    }
-    judged(z, admits(t, first, [0; 32]))
+    same
 }
 
 // A search works out at most D - W + 1 demands.
 fn is_short(t: Table, i: u8, tried: u32) -> bool {
-    let th = t.threads[i as usize % 32];
-    tried as u64 + th.budget as u64 <= th.deadline as u64 + 1
+    let f = t.threads[i as usize % 32];
+    let most = std::num::wrapping_sub_u16(f.deadline, f.budget);
+    tried <= most as u32 + 1
 }
 
-fn judge_thread(y: Tally, t: Table, i: u8, bound: u32) -> Tally {
-    let time = plain::prohibition(t, i);
-    let tried = plain::lengths_tried(t, i);
+fn lengths_tried(t: Table, i: u8, bound: u32) -> u32 {
+    if bound >= 100000 {
+        return 0;
+    }
+    rival_bounds::lengths_tried(t, i)
+}
+
+// Both calls that name a thread.
+fn thread(y: Tally, t: Table, i: u8) -> Tally {
+    let bound = rival_bounds::bound(t, i);
+    let time = rival_bounds::prohibition(t, i);
+    let tried = lengths_tried(t, i, bound);
+    let good = (bound_number(t, i) == bound) & (time_number(t, i) == time);
+    let short = (bound >= 100000) | is_short(t, i, tried);
     let mut z = y;
-    z.found = more_if(z.found, bound != 0);
+    z.found = more_if(z.found, (bound != 0) & (bound < 100000));
     z.none = more_if(z.none, bound == 0);
-    z.prohibited = more_if(z.prohibited, time != 0);
-    z.worst = larger(z.worst, tried);
-    z = judged(z, bound_number(t, i) == bound);
-    z = judged(z, time_number(t, i) == time);
-    judged(z, is_short(t, i, tried))
-}
-
-fn judge_threads(y: Tally, t: Table, bounds: [u16; 32]) -> Tally {
-    let mut z = y;
-    for i in 0..t.count {
-        let bound = bounds[i as usize % 32];
-        z = judge_thread(z, t, i, bound as u32);
+    z.no_thread = more_if(z.no_thread, bound == 100015);
+    z.prohibited = more_if(z.prohibited, (time != 0) & (time < 1000000000000));
+    z.wrong = more_if(z.wrong, !good | !short);
+    if tried > z.worst {
+        z.worst = tried;
     }
     z
 }
 
-// Both calls that name a thread refuse it.
-fn judge_refusal(y: Tally, t: Table, i: u8, bound: u32, time: u64) -> Tally {
-    let z = judged(y, bound_number(t, i) == bound);
-    judged(z, time_number(t, i) == time)
+// Whether admission answers as the plain search does.
+fn is_same(t: Table, theirs: rival_bounds::Admitted) -> bool {
+    let ours = admission::admit(t);
+    let a = ours.answer;
+    let x = ours.bounds;
+    let b = theirs.bounds;
+    (admit_number(a) == theirs.first) & same(x, b)
 }
 
-// A table that is known to be legal.
-pub fn legal(y: Tally, t: Table) -> Tally {
-    let bounds = plain::bounds(t);
-    let mut z = judge_admission(y, t, bounds);
-    z = judge_threads(z, t, bounds);
-    z = judge_refusal(z, t, t.count, 100015, 1000000000015);
-    judge_refusal(z, t, 255, 100015, 1000000000015)
-}
-
-// A table that is known not to be legal.
-pub fn refused(y: Tally, t: Table) -> Tally {
+// All threads of the table, and two that it lacks.
+pub fn table(y: Tally, t: Table) -> Tally {
+    let theirs = rival_bounds::admit(t);
+    let count = std::num::wrapping_add_u8(t.count % 34, 1);
     let mut z = y;
-    z.refused = more_if(z.refused, true);
-    z = judged(z, admits(t, 33, [0; 32]));
-    z = judge_refusal(z, t, 0, 100011, 1000000000011);
-    judge_refusal(z, t, 255, 100011, 1000000000011)
+    z.admitted = more_if(z.admitted, theirs.first == 32);
+    z.without = more_if(z.without, theirs.first < 32);
+    z.refused = more_if(z.refused, theirs.first == 33);
+    z.wrong = more_if(z.wrong, !is_same(t, theirs));
+    for i in 0..count {
+        z = thread(z, t, i);
+    }
+    thread(z, t, 255)
 }

@@ -4,7 +4,7 @@ use mathlib.Core.Path.{_≡_}
 use mathlib.Core.List.{List, [], _∷_, _++_}
 use lib.ListN.{length, getD, take, drop}
 use lib.Dec.{leb}
-use Rattle.basis.specs.Tests.{pick, and}
+use Rattle.basis.specs.Tests.{pick}
 use Rattle.basis.specs.Told.{Told, answered, refused}
 use Rattle.table.specs.Legal.{legal}
 use Rattle.table.specs.declared.Table.{Table}

@@ -5,7 +5,7 @@ use Rattle.flow.proofs.GapLaws.{gap-at-none, gap-at-hit, whole-by-c}
 use Rattle.flow.specs.Gap.{gap-at, gap-by-c, gap-by-b, first-gap, gap-told, told}
 use Rattle.flow.specs.declared.Gap.the-variants.{None}
 use mathlib.Core.Logic.{⊎-elim}
-use borrow.Author.Tests.{not-true, not-false}
+use borrow.Author.Tests.{not-false}
 use native.Mathlib.Omega.{arith}
 use mathlib.Core.Path.{_≡_, refl, sym, _∙_, ap}
 use Prim.Native.Nat.{_≤_, _-_}

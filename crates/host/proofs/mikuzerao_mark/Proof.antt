@@ -1,10 +1,8 @@
 use mathlib.Core.Path.{_≡_, sym, ap, _∙_}
-use mathlib.Core.Logic.{_≢_}
 use native.Mathlib.Omega.{arith}
-use Prim.Native.Nat.{_≤_, _<_}
 use Rattle.numeral.specs.NumberRules.{Bytes}
 use Rattle.reader.specs.Reader.{Read, reading}
-use Rattle.host.specs.Host.{verdict, refusal, thread-mark, thread-bound, bound-number}
+use Rattle.host.specs.Host.{verdict, refusal, thread-mark}
 use Rattle.host.proofs.HostLaws.{unread, lacking, answering}
 use borrow.Author.Needs.{needs}
 use Rattle.host.proofs.mikuzerao_mark.Statement.{statement}

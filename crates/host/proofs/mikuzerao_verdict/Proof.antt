@@ -1,4 +1,4 @@
-use mathlib.Core.Path.{_≡_, sym, ap, _∙_}
+use mathlib.Core.Path.{ap, _∙_}
 use Rattle.reader.specs.Reader.{Read}
 use Rattle.host.specs.Host.{verdict}
 use borrow.Author.Needs.{needs}

@@ -3,7 +3,7 @@ use Rattle.numeral.proofs.NumberLaws.{held-bytes}
 use Rattle.basis.specs.Tests.{pick}
 use Rattle.basis.proofs.ListLaws.{drop-some}
 use lib.ListN.{drop-of-length-le}
-use borrow.Author.Tests.{le-leb, lt-leb, lt-ltb, le-ltb, eq-eqb, ne-eqb}
+use borrow.Author.Tests.{lt-ltb, le-ltb}
 use borrow.Author.Needs.{needs}
 use Rattle.numeral.proofs.read_number.Statement.{statement}
 use Rattle.numeral.proofs.read_number.Tie as tie

@@ -2,7 +2,7 @@ use Rattle.numeral.specs.Number.{second}
 use Rattle.basis.specs.Tests.{pick}
 use Rattle.basis.proofs.ListLaws.{drop-some}
 use lib.ListN.{drop-of-length-le}
-use borrow.Author.Tests.{le-leb, lt-leb, lt-ltb, le-ltb, eq-eqb, ne-eqb}
+use borrow.Author.Tests.{lt-ltb, le-ltb, eq-eqb, ne-eqb}
 use borrow.Author.Needs.{needs}
 use Rattle.numeral.proofs.second_byte.Statement.{statement}
 use Rattle.numeral.proofs.second_byte.Tie as tie

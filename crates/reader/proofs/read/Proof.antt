@@ -1,13 +1,11 @@
 -- `reader::read` meets its contract: the head and the rows are read, then the first gap is looked for, then the threads are read.
-use mathlib.Core.Path.{_≡_, sym, _∙_, ap}
+use mathlib.Core.Path.{_≡_}
 use native.Mathlib.Omega.{arith}
 use borrow.Author.Tests.{eq-eqb, ne-eqb}
 use Rattle.basis.specs.Tests.{pick}
-use Rattle.basis.specs.Search.{Sought, nothing, found}
 use Rattle.flow.specs.Gap.{first-gap}
-use Rattle.flow.proofs.GapLaws.{sought, gap-sought}
-use Rattle.table.specs.Ranges.{domain-counts, thread-counts}
-use Rattle.reader.specs.Reader.{Read, after-rows, whole-or-gap, ended, threads-from, reading}
+use Rattle.flow.proofs.GapLaws.{gap-sought}
+use Rattle.reader.specs.Reader.{after-rows, reading}
 use Rattle.reader.proofs.ReaderLaws.{ranged-small, ranged-most, reading-is}
 use borrow.Author.Needs.{needs}
 use Rattle.reader.proofs.read.Statement.{statement}

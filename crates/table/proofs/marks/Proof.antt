@@ -3,8 +3,7 @@ use Rattle.table.specs.Mark.{marking, marks-given}
 use Rattle.table.specs.Legal.{legal}
 use Rattle.basis.specs.Tests.{pick}
 use borrow.Author.Tests.{not-true, not-false}
-use mathlib.Core.Bool.{true, false}
-use mathlib.Core.Path.{_≡_, sym, _∙_}
+use mathlib.Core.Path.{sym, _∙_}
 use borrow.Author.Needs.{needs}
 use Rattle.table.proofs.marks.Statement.{statement}
 use Rattle.table.proofs.marks.Tie as tie

@@ -7,6 +7,8 @@ use native.Mathlib.Numerals.{add-one}
 use lib.ListN.{length, take, drop}
 use Rattle.basis.specs.Ceil.{ceil}
 use Rattle.writer.proofs.WriterLaws.{put-none, put-length}
+use Rattle.basis.specs.Search.{listed}
+use Rattle.basis.specs.Turns.{after}
 use Rattle.bench.specs.Text.{bytes-of, played, from}
 use Rattle.bench.specs.Playing.{Plays}
 use Rattle.bench.proofs.PlayLaws.{plays-next, played-next, step-starts, step-bytes}
@@ -62,7 +64,7 @@ rounded-up-requires : tie.Need-rounded-up-requires Inv-loop μ-loop
 rounded-up-requires c κs = search needs
 
 loop-holds : tie.Need-loop-holds Inv-loop μ-loop
-unfolding played
+unfolding played listed after
 loop-holds c = (omega arith, omega arith, omega arith, record { state = refl; why = refl; put = put-none _ _ })
 
 step-end-requires : tie.Need-step-end-requires Inv-loop μ-loop

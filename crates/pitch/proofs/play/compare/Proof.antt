@@ -1,45 +1,23 @@
--- `pitch::play::compare` is safe and ends after 600 turns.
-use Prim.Native.Nat.{_-_, _≤_}
+-- `pitch::play::compare` is safe and ends: run counts up to 600.
+use Prim.Native.Nat.{_-_}
 use borrow.Author.Needs.{needs}
 use Rattle.pitch.proofs.play.compare.Statement.{statement}
 use Rattle.pitch.proofs.play.compare.Tie as tie
-use Rattle.pitch.proofs.play.compare.Reads as reads
-use Rattle.pitch.proofs.play.compare.Lts as lts
-use Rattle.pitch.proofs.play.nothing.Reads as nothing-reads
-use Rattle.pitch.proofs.play.play.Reads as play-reads
-use Rattle.pitch.proofs.play.report.Reads as report-reads
-use Rattle.pitch.proofs.play.roll.Reads as roll-reads
-use Rattle.pitch.proofs.play.some_actuator.Reads as some-actuator-reads
 
 abbrev Inv-loop : tie.InvT-loop
-Inv-loop c₀ dice₀ run₀ c dice run = run ≤ 600
+Inv-loop tally₀ run₀ tally run = Unit {0}
 
 abbrev μ-loop : tie.MeasureT-loop
-μ-loop c₀ dice₀ run₀ c dice run = 600 - run
-
-nothing-requires : tie.Need-nothing-requires Inv-loop μ-loop
-nothing-requires c κs = tt
+μ-loop tally₀ run₀ tally run = 600 - run
 
 loop-holds : tie.Need-loop-holds Inv-loop μ-loop
 loop-holds c = search needs
 
-roll-requires : tie.Need-roll-requires Inv-loop μ-loop
-roll-requires c κs = tt
-
-roll-requires-2 : tie.Need-roll-requires-2 Inv-loop μ-loop
-roll-requires-2 c κs = tt
-
-roll-requires-3 : tie.Need-roll-requires-3 Inv-loop μ-loop
-roll-requires-3 c κs = tt
-
-roll-requires-4 : tie.Need-roll-requires-4 Inv-loop μ-loop
-roll-requires-4 c κs = tt
-
-some-actuator-requires : tie.Need-some-actuator-requires Inv-loop μ-loop
-some-actuator-requires c κs = tt
+part-requires : tie.Need-part-requires Inv-loop μ-loop
+part-requires c κs = search needs
 
 play-requires : tie.Need-play-requires Inv-loop μ-loop
-play-requires c κs = tt
+play-requires c κs = search needs
 
 add-run : tie.Need-add-run Inv-loop μ-loop
 add-run c = search needs
@@ -51,7 +29,7 @@ loop-again : tie.Need-loop-again Inv-loop μ-loop
 loop-again c = search needs
 
 report-requires : tie.Need-report-requires Inv-loop μ-loop
-report-requires c κs = tt
+report-requires c κs = search needs
 
 returns : tie.Need-returns Inv-loop μ-loop
 returns c = search needs
@@ -62,13 +40,8 @@ compare-spec =
     (tie.spec
     Inv-loop
     μ-loop
-    nothing-requires
     loop-holds
-    roll-requires
-    roll-requires-2
-    roll-requires-3
-    roll-requires-4
-    some-actuator-requires
+    part-requires
     play-requires
     add-run
     loop-less

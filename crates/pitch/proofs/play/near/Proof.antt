@@ -4,7 +4,7 @@ use native.Mathlib.Omega.{arith}
 use lib.Dec.{lit<, lit≤}
 use mir.Syntax.{w64}
 use borrow.Author.Needs.{needs}
-use Rattle.pitch.proofs.SignedLaws.{minus-fits}
+use Rattle.rival_actuator.proofs.SignedLaws.{minus-fits}
 use Rattle.pitch.proofs.play.near.Statement.{statement}
 use Rattle.pitch.proofs.play.near.Tie as tie
 use Rattle.pitch.proofs.play.near.Reads as reads

@@ -1,38 +1,41 @@
--- `pitch::play::play` is safe and ends after 30 turns.
-use Prim.Native.Nat.{_-_, _≤_}
+-- `pitch::play::play` is safe and ends: k counts up to 30.
+use Prim.Native.Nat.{_-_}
 use borrow.Author.Needs.{needs}
 use Rattle.pitch.proofs.play.play.Statement.{statement}
 use Rattle.pitch.proofs.play.play.Tie as tie
-use Rattle.pitch.proofs.play.play.Reads as reads
-use Rattle.pitch.proofs.play.play.Lts as lts
-use Rattle.pitch.proofs.play.roll.Reads as roll-reads
-use Rattle.pitch.proofs.play.round.Reads as round-reads
-use Rattle.pitch.proofs.play.table.Reads as table-reads
-use Rattle.state.proofs.fresh.Reads as fresh-reads
 
 abbrev Inv-loop : tie.InvT-loop
-Inv-loop seed t g₀ dice₀ k₀ g dice k = k ≤ 30
+Inv-loop seed t g₀ k₀ g k = Unit {0}
 
 abbrev μ-loop : tie.MeasureT-loop
-μ-loop seed t g₀ dice₀ k₀ g dice k = 30 - k
+μ-loop seed t g₀ k₀ g k = 30 - k
 
 table-requires : tie.Need-table-requires Inv-loop μ-loop
-table-requires c κs = tt
+table-requires c κs = search needs
 
 fresh-requires : tie.Need-fresh-requires Inv-loop μ-loop
-fresh-requires c κs = tt
+fresh-requires c κs = search needs
+
+place-requires : tie.Need-place-requires Inv-loop μ-loop
+place-requires c κs = search needs
+
+rate-requires : tie.Need-rate-requires Inv-loop μ-loop
+rate-requires c κs = search needs
+
+thread-requires : tie.Need-thread-requires Inv-loop μ-loop
+thread-requires c κs = search needs
+
+start-requires : tie.Need-start-requires Inv-loop μ-loop
+start-requires c κs = search needs
 
 loop-holds : tie.Need-loop-holds Inv-loop μ-loop
 loop-holds c = search needs
 
-roll-requires : tie.Need-roll-requires Inv-loop μ-loop
-roll-requires c κs = tt
-
-roll-requires-2 : tie.Need-roll-requires-2 Inv-loop μ-loop
-roll-requires-2 c κs = tt
+part-requires : tie.Need-part-requires Inv-loop μ-loop
+part-requires c κs = search needs
 
 round-requires : tie.Need-round-requires Inv-loop μ-loop
-round-requires c κs = tt
+round-requires c κs = search needs
 
 add-k : tie.Need-add-k Inv-loop μ-loop
 add-k c = search needs
@@ -54,9 +57,12 @@ play-spec =
     μ-loop
     table-requires
     fresh-requires
+    place-requires
+    rate-requires
+    thread-requires
+    start-requires
     loop-holds
-    roll-requires
-    roll-requires-2
+    part-requires
     round-requires
     add-k
     loop-less

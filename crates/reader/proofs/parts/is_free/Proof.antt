@@ -1,6 +1,5 @@
 use Rattle.reader.specs.Reader.{free}
 use borrow.Author.Tests.{eq-eqb, ne-eqb}
-use mathlib.Core.Path.{refl}
 use borrow.Author.Needs.{needs}
 use Rattle.reader.proofs.parts.is_free.Statement.{statement}
 use Rattle.reader.proofs.parts.is_free.Tie as tie

@@ -1,8 +1,6 @@
 use Rattle.basis.specs.Tests.{pick}
 use Rattle.reader.specs.Reader.{ended}
-use native.Mathlib.Omega.{arith}
-use mathlib.Core.Path.{_≡_, refl, sym, _∙_}
-use borrow.Author.Tests.{le-leb, lt-leb, lt-ltb, le-ltb, eq-eqb, ne-eqb}
+use borrow.Author.Tests.{lt-ltb, le-ltb, eq-eqb, ne-eqb}
 use borrow.Author.Needs.{needs}
 use Rattle.reader.proofs.parts.read_rest.Statement.{statement}
 use Rattle.reader.proofs.parts.read_rest.Tie as tie

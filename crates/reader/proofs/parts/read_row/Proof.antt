@@ -1,7 +1,4 @@
 use Rattle.reader.specs.Reader.{row-from}
-use native.Mathlib.Omega.{arith}
-use mathlib.Core.Path.{_≡_, refl, sym, _∙_}
-use borrow.Author.Tests.{le-leb, lt-leb, lt-ltb, le-ltb, eq-eqb, ne-eqb}
 use borrow.Author.Needs.{needs}
 use Rattle.reader.proofs.parts.read_row.Statement.{statement}
 use Rattle.reader.proofs.parts.read_row.Tie as tie

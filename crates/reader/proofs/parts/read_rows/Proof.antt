@@ -2,9 +2,7 @@ use Rattle.reader.proofs.ReaderLaws.{rows-next}
 use Prim.Native.Nat.{_≤_, _-_}
 use Rattle.reader.specs.Reader.{rows-from}
 use native.Mathlib.Omega.{arith}
-use mathlib.Core.Path.{_≡_, refl, sym, _∙_}
-use borrow.Author.Tests.{le-leb, lt-leb, lt-ltb, le-ltb, eq-eqb, ne-eqb}
-use borrow.Author.Needs.{needs}
+use mathlib.Core.Path.{_≡_, refl}
 use Rattle.reader.proofs.parts.read_rows.Statement.{statement}
 use Rattle.reader.proofs.parts.read_rows.Tie as tie
 use Rattle.reader.proofs.parts.read_rows.Reads as reads

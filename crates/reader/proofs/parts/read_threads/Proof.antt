@@ -1,7 +1,7 @@
 use Rattle.reader.proofs.ReaderLaws.{threads-next, fields-small}
 use Rattle.reader.specs.Reader.{threads-from}
 use native.Mathlib.Omega.{arith}
-use mathlib.Core.Path.{_≡_, refl}
+use mathlib.Core.Path.{_≡_}
 use Prim.Native.Nat.{_≤_, _-_}
 use borrow.Author.Needs.{needs}
 use Rattle.reader.proofs.parts.read_threads.Statement.{statement}

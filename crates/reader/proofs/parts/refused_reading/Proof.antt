@@ -1,4 +1,3 @@
-use mathlib.Core.Path.{refl}
 use borrow.Author.Needs.{needs}
 use Rattle.reader.proofs.parts.refused_reading.Statement.{statement}
 use Rattle.reader.proofs.parts.refused_reading.Tie as tie

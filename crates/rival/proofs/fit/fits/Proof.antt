@@ -1,11 +1,11 @@
 -- `rival::fit::fits` is safe and ends: i counts up to 32.
-use Prim.Native.Nat.{_-_, _≤_}
+use Prim.Native.Nat.{_-_}
 use borrow.Author.Needs.{needs}
 use Rattle.rival.proofs.fit.fits.Statement.{statement}
 use Rattle.rival.proofs.fit.fits.Tie as tie
 
 abbrev Inv-loop : tie.InvT-loop
-Inv-loop t s i₀ i = i ≤ 32
+Inv-loop t s i₀ i = Unit {0}
 
 abbrev μ-loop : tie.MeasureT-loop
 μ-loop t s i₀ i = 32 - i

@@ -1,26 +1,29 @@
--- `rival::time::release` is safe and ends: i counts up to 32.
-use Prim.Native.Nat.{_-_, _≤_}
+-- `rival::time::release` is safe and ends: i counts up to count.
+use Prim.Native.Nat.{_-_}
 use borrow.Author.Needs.{needs}
 use Rattle.rival.proofs.time.release.Statement.{statement}
 use Rattle.rival.proofs.time.release.Tie as tie
 
 abbrev Inv-loop : tie.InvT-loop
-Inv-loop t s next₀ i₀ next i = i ≤ 32
+Inv-loop t s count next₀ i₀ next i = Unit {0}
 
 abbrev μ-loop : tie.MeasureT-loop
-μ-loop t s next₀ i₀ next i = 32 - i
+μ-loop t s count next₀ i₀ next i = count - i
 
 loop-holds : tie.Need-loop-holds Inv-loop μ-loop
 loop-holds c = search needs
 
-cast-if1 : tie.Need-cast-if1 Inv-loop μ-loop
-cast-if1 c = search needs
+cast-f : tie.Need-cast-f Inv-loop μ-loop
+cast-f c = search needs
 
 mul-f : tie.Need-mul-f Inv-loop μ-loop
 mul-f c = search needs
 
 element-copy-out-f : tie.Need-element-copy-out-f Inv-loop μ-loop
 element-copy-out-f c = search needs
+
+cast-p : tie.Need-cast-p Inv-loop μ-loop
+cast-p c = search needs
 
 mul-p : tie.Need-mul-p Inv-loop μ-loop
 mul-p c = search needs
@@ -30,6 +33,9 @@ element-copy-out-p c = search needs
 
 released-requires : tie.Need-released-requires Inv-loop μ-loop
 released-requires c κs = search needs
+
+cast-t12 : tie.Need-cast-t12 Inv-loop μ-loop
+cast-t12 c = search needs
 
 mul-t13 : tie.Need-mul-t13 Inv-loop μ-loop
 mul-t13 c = search needs
@@ -56,12 +62,14 @@ release-spec =
     Inv-loop
     μ-loop
     loop-holds
-    cast-if1
+    cast-f
     mul-f
     element-copy-out-f
+    cast-p
     mul-p
     element-copy-out-p
     released-requires
+    cast-t12
     mul-t13
     element-set-from-next
     add-i

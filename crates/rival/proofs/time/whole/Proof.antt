@@ -15,7 +15,7 @@ mul-result : tie.Need-mul-result
 mul-result c = omega (arith, div-mul-le-self (c .before .args .length) (c .before .args .period))
 
 returns-2 : tie.Need-returns-2
-returns-2 c = div-mul-le-self _ _
+returns-2 c = search needs
 
 pub whole-spec : {M : Type 1} → statement M
 whole-spec = tie.close (tie.spec returns div-result mul-result returns-2)

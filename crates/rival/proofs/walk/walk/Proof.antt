@@ -1,17 +1,17 @@
--- `rival::walk::walk` is safe and ends: lower counts up to 256.
-use Prim.Native.Nat.{_-_, _≤_}
+-- `rival::walk::walk` is safe and ends: k counts up to 32.
+use Prim.Native.Nat.{_-_}
 use borrow.Author.Needs.{needs}
 use Rattle.rival.proofs.walk.walk.Statement.{statement}
 use Rattle.rival.proofs.walk.walk.Tie as tie
 
 abbrev Inv-loop : tie.InvT-loop
-Inv-loop bytes seats marks turn₀ lower₀ turn lower = lower ≤ 256
+Inv-loop bytes by-priority marks now₀ k₀ now k = Unit {0}
 
 abbrev μ-loop : tie.MeasureT-loop
-μ-loop bytes seats marks turn₀ lower₀ turn lower = 256 - lower
+μ-loop bytes by-priority marks now₀ k₀ now k = 32 - k
 
-seated-requires : tie.Need-seated-requires Inv-loop μ-loop
-seated-requires c κs = search needs
+order-requires : tie.Need-order-requires Inv-loop μ-loop
+order-requires c κs = search needs
 
 leaks-requires : tie.Need-leaks-requires Inv-loop μ-loop
 leaks-requires c κs = search needs
@@ -19,17 +19,20 @@ leaks-requires c κs = search needs
 loop-holds : tie.Need-loop-holds Inv-loop μ-loop
 loop-holds c = search needs
 
-sub-i : tie.Need-sub-i Inv-loop μ-loop
-sub-i c = search needs
+array-read-i : tie.Need-array-read-i Inv-loop μ-loop
+array-read-i c = search needs
 
-element-copy-out-i : tie.Need-element-copy-out-i Inv-loop μ-loop
-element-copy-out-i c = search needs
+cast-come : tie.Need-cast-come Inv-loop μ-loop
+cast-come c = search needs
+
+array-read-come : tie.Need-array-read-come Inv-loop μ-loop
+array-read-come c = search needs
 
 come-requires : tie.Need-come-requires Inv-loop μ-loop
 come-requires c κs = search needs
 
-add-lower : tie.Need-add-lower Inv-loop μ-loop
-add-lower c = search needs
+add-k : tie.Need-add-k Inv-loop μ-loop
+add-k c = search needs
 
 loop-less : tie.Need-loop-less Inv-loop μ-loop
 loop-less c = search needs
@@ -46,13 +49,14 @@ walk-spec =
     (tie.spec
     Inv-loop
     μ-loop
-    seated-requires
+    order-requires
     leaks-requires
     loop-holds
-    sub-i
-    element-copy-out-i
+    array-read-i
+    cast-come
+    array-read-come
     come-requires
-    add-lower
+    add-k
     loop-less
     loop-again
     returns)

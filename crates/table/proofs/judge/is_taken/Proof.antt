@@ -2,7 +2,7 @@ use Rattle.table.specs.Legal.{taken}
 use Rattle.basis.proofs.TestLaws.{some-none, some-next, some-hit, some-end}
 use borrow.Author.Tests.{eq-eqb, ne-eqb}
 use mathlib.Core.Bool.{false}
-use mathlib.Core.Path.{_≡_, sym, _∙_}
+use mathlib.Core.Path.{_≡_, sym}
 use Prim.Native.Nat.{_≤_, _-_}
 use borrow.Author.Needs.{needs}
 use Rattle.table.proofs.judge.is_taken.Statement.{statement}

@@ -1,7 +1,7 @@
 use Rattle.table.specs.Legal.{place-legal}
 use Rattle.table.proofs.TakenLaws.{Kept, kept-none, kept-next}
 use Rattle.basis.proofs.TestLaws.{every-none, every-next, every-fails, every-end}
-use Rattle.basis.specs.Tests.{pick, every}
+use Rattle.basis.specs.Tests.{every}
 use borrow.Author.Tests.{not-true, not-false}
 use mathlib.Core.Bool.{true}
 use mathlib.Core.Path.{_≡_, sym, _∙_}

@@ -1,4 +1,4 @@
-use Rattle.table.specs.Legal.{row-legal, place-legal}
+use Rattle.table.specs.Legal.{row-legal}
 use Rattle.basis.proofs.TestLaws.{every-none, every-next, every-fails, every-end}
 use Rattle.basis.specs.Tests.{every}
 use borrow.Author.Tests.{not-true, not-false}

@@ -4,7 +4,7 @@ use Rattle.basis.proofs.TestLaws.{every-none, every-next, every-fails, every-en
 use Rattle.basis.specs.Tests.{every}
 use borrow.Author.Tests.{eq-eqb, ne-eqb}
 use mathlib.Core.Bool.{true}
-use mathlib.Core.Path.{_≡_, sym, _∙_, ap}
+use mathlib.Core.Path.{_≡_, sym}
 use Prim.Native.Nat.{_≤_, _-_}
 use borrow.Author.Needs.{needs}
 use Rattle.table.proofs.judge.thread_is_zero.Statement.{statement}

@@ -5,7 +5,7 @@ use native.Mathlib.Nat.{le-antisymm}
 use lib.ListN.{replicate}
 use mathlib.Core.List.{_++_}
 use mathlib.Core.Bool.{false}
-use mathlib.Core.Path.{_≡_, sym, _∙_, refl}
+use mathlib.Core.Path.{_≡_}
 use Prim.Native.Nat.{_≤_, _-_}
 use native.Mathlib.Omega.{arith}
 use borrow.Author.Needs.{needs}

@@ -1,6 +1,5 @@
 use Rattle.table.specs.Ranges.{within}
 use borrow.Author.Tests.{le-leb, lt-leb}
-use borrow.Author.Needs.{needs}
 use Rattle.table.proofs.ranges.in_range.Statement.{statement}
 use Rattle.table.proofs.ranges.in_range.Tie as tie
 use Rattle.table.proofs.ranges.in_range.Reads as reads

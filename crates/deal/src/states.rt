@@ -1,0 +1,98 @@
+// Random states that fit a table, and random step bytes.
+use dice::any8;
+use dice::below;
+use dice::below8;
+use dice::below32;
+use dice::between;
+use dice::part;
+use dice::seldom;
+use scheduler::Progress;
+use scheduler::State;
+use std::num::wrapping_add_u32;
+use std::num::wrapping_sub_u32;
+use table::Table;
+use table::Thread;
+
+const LATEST: u32 = 1000000000;
+
+// At a release of a thread, at its deadline or beside one of them.
+fn clock_about(seed: u64, f: Thread) -> u32 {
+    let any = below32(seed, 1, LATEST);
+    if f.period == 0 {
+        return any;
+    }
+    let release = wrapping_add_u32(
+        wrapping_sub_u32(any, any % f.period as u32),
+        f.offset as u32,
+    );
+    let deadline = wrapping_add_u32(release, f.deadline as u32);
+    match below(seed, 2, 5) {
+        0 | 1 => release,
+        2 => deadline,
+        3 => wrapping_sub_u32(deadline, 1),
+        _ => wrapping_add_u32(release, 1),
+    }
+}
+
+// Early, just before the end, or about a thread's release or deadline.
+fn clock(seed: u64, t: Table) -> u32 {
+    let i = below8(seed, 3, t.count);
+    let clock = match below(seed, 4, 8) {
+        0 => below32(seed, 5, 40),
+        1 => below32(seed, 5, 70000),
+        2 => wrapping_sub_u32(999999999, below32(seed, 5, 40)),
+        _ => clock_about(seed, t.threads[i as usize % 32]),
+    };
+    if clock < LATEST { clock } else { 999999999 }
+}
+
+fn progress(seed: u64, budget: u16, clock: u32) -> Progress {
+    let rest = match below(seed, 6, 4) {
+        0 => 0,
+        1 => budget,
+        _ => between(seed, 7, 0, budget),
+    };
+    let ran = below32(seed, 8, wrapping_add_u32(clock, 1));
+    Progress {
+        rest,
+        finished: seldom(seed, 9, 4),
+        ran: if seldom(seed, 10, 4) { clock } else { ran },
+    }
+}
+
+pub fn state(seed: u64, t: Table) -> State {
+    let clock = clock(seed, t);
+    let count = t.count;
+    let mut s = scheduler::fresh();
+    s.clock = clock;
+    for i in 0..count {
+        let f = t.threads[i as usize % 32];
+        s.threads[i as usize % 32] = progress(part(seed, i as u32), f.budget, clock);
+    }
+    s
+}
+
+// In a mood of 0 few threads run, in one of 7 nearly all.
+fn byte(seed: u64, mood: u16) -> u8 {
+    if below(seed, 11, 8) < mood {
+        return 1;
+    }
+    match below(seed, 12, 10) {
+        0 => 1,
+        1 => 2,
+        2 => 3,
+        3 => 255,
+        4 => any8(seed, 13),
+        _ => 0,
+    }
+}
+
+// More bytes than any table asks for.
+pub fn bytes(seed: u64) -> [u8; 40] {
+    let mood = below(seed, 14, 8);
+    let mut bytes = [0u8; 40];
+    for i in 0..40u32 {
+        bytes[i as usize] = byte(part(seed, i), mood);
+    }
+    bytes
+}

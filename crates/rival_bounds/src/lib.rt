@@ -1,0 +1,158 @@
+// A second admission, written from document 01 alone: a plain search over every length.
+use table::Table;
+use table::Thread;
+
+fn product(a: u16, b: u16) -> u64 {
+    a as u64 * b as u64
+}
+
+// A share for each of the periods p that it takes to fill a length: the whole ones, and one more where they fall short.
+fn shares(length: u16, p: u16, share: u16) -> u64 {
+    if p == 0 {
+        return 0;
+    }
+    let whole = product(length / p, share);
+    if length % p == 0 {
+        return whole;
+    }
+    std::num::wrapping_add_u64(whole, share as u64)
+}
+
+// What thread h wants before a lower one in x steps: nothing unless it stands above.
+fn wanted(h: Thread, own: Thread, x: u16) -> u64 {
+    if h.priority <= own.priority {
+        return 0;
+    }
+    shares(x, h.period, h.budget)
+}
+
+// Whether a demand is at most a length.
+fn is_held(demand: u64, x: u16) -> bool {
+    demand <= x as u64
+}
+
+// W of a thread, and what each thread above it wants in x steps.
+fn demand(t: Table, own: Thread, x: u16) -> u64 {
+    let count = t.count;
+    let mut sum = own.budget as u64;
+    for h in 0..count {
+        let f = t.threads[h as usize % 32];
+        sum = std::num::wrapping_add_u64(sum, wanted(f, own, x));
+    }
+    sum
+}
+
+// The smallest x from low to high whose demand is at most x; 0 where there is none.
+fn smallest(t: Table, own: Thread, low: u16, high: u16) -> u16 {
+    for x in low..=high {
+        if is_held(demand(t, own, x), x) {
+            return x;
+        }
+    }
+    0
+}
+
+// From W to D.
+fn plain_bound(t: Table, i: u8) -> u16 {
+    let own = t.threads[i as usize % 32];
+    smallest(t, own, own.budget, own.deadline)
+}
+
+// Whether there is a thread i, as the number of the refusal or 0.
+fn refusal(t: Table, i: u8) -> u32 {
+    if !rival_table::legal(t) {
+        return 11;
+    }
+    if i >= t.count {
+        return 15;
+    }
+    0
+}
+
+// The bound of thread i, 0 where it has none, or 100,000 and the number of the refusal.
+pub fn bound(t: Table, i: u8) -> u32 {
+    let why = refusal(t, i);
+    if why != 0 {
+        return std::num::wrapping_add_u32(100000, why);
+    }
+    plain_bound(t, i) as u32
+}
+
+// The first thread without a bound, 32 where the table is admitted and 33 where it is refused; all bounds where it is admitted,
+// else zeros.
+pub struct Admitted {
+    pub first: u8,
+    pub bounds: [u16; 32],
+}
+
+fn without(first: u8) -> Admitted {
+    Admitted {
+        first,
+        bounds: [0; 32],
+    }
+}
+
+pub fn admit(t: Table) -> Admitted {
+    if !rival_table::legal(t) {
+        return without(33);
+    }
+    let count = t.count;
+    let mut bounds = [0u16; 32];
+    for i in 0..count {
+        let x = plain_bound(t, i);
+        if x == 0 {
+            return without(i);
+        }
+        bounds[i as usize % 32] = x;
+    }
+    Admitted { first: 32, bounds }
+}
+
+// What thread h adds to the prohibition time of a thread below it, if it is marked: B of h for each P of the lower one that it
+// takes to fill P of h.
+fn prohibited_by(h: Thread, own: Thread, marked: bool) -> u64 {
+    if !marked | (h.priority <= own.priority) {
+        return 0;
+    }
+    shares(h.period, own.period, h.blocking)
+}
+
+// The prohibition time of thread l, or 1,000,000,000,000 and the number of the refusal.
+pub fn prohibition(t: Table, l: u8) -> u64 {
+    let why = refusal(t, l);
+    if why != 0 {
+        return std::num::wrapping_add_u64(1000000000000, why as u64);
+    }
+    let marks = rival_table::marks(t);
+    let own = t.threads[l as usize % 32];
+    let mut sum: u64 = 0;
+    for h in 0..32usize {
+        let f = t.threads[h];
+        sum = std::num::wrapping_add_u64(sum, prohibited_by(f, own, marks[h]));
+    }
+    sum
+}
+
+// The lengths whose demand a search works out that puts the demand in place of each length.
+pub fn lengths_tried(t: Table, i: u8) -> u32 {
+    let own = t.threads[i as usize % 32];
+    let mut x = own.budget;
+    for tried in 1..60001u32 {
+        let next = demand(t, own, x);
+        if is_held(next, x) | !is_held(next, own.deadline) {
+            return tried;
+        }
+        x = (next % 65536) as u16;
+    }
+    60001
+}
+
+// Whether a table has a long period, so that the plain search takes long.
+pub fn is_long(t: Table) -> bool {
+    let mut long = false;
+    for i in 0..32usize {
+        let f = t.threads[i];
+        long = long | (f.period > 1000);
+    }
+    long
+}

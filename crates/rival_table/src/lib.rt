@@ -1,0 +1,25 @@
+// A second reading of which tables are legal and which threads are marked, written from document 01 alone. It shares types with
+// the first, and neither a function nor a definition. It keeps the relation as sets, sorts the threads by selection, and finds
+// the marks from the lowest thread up.
+mod judge;
+mod rank;
+mod relation;
+
+pub use judge::is_held;
+pub use judge::legal;
+pub use rank::NOBODY;
+pub use rank::leaks;
+pub use rank::order;
+pub use relation::Gap;
+pub use relation::first_gap;
+pub use relation::flows;
+pub use relation::row_is_good;
+use table::Table;
+
+// The leak mark of each thread; none where the table is not legal.
+pub fn marks(t: Table) -> [bool; 32] {
+    if !legal(t) {
+        return [false; 32];
+    }
+    leaks(t, order(t))
+}
