@@ -2,7 +2,7 @@
 -- shown of a call says whether a thread that it may see ran; where they do not pass, nothing moves.
 use Prim.Native.Nat.{ℕ, _<_}
 use mathlib.Core.Path.{_≡_, refl, sym, _∙_, ap, ap₂, subst}
-use mathlib.Core.List.{List, [], _∷_, map, map-map}
+use mathlib.Core.List.{List, [], _∷_, map}
 use mathlib.Core.Bool.{Bool, true, false}
 use native.Mathlib.Omega.{arith}
 use borrow.Author.Tests.{eqb-true, eqb-false, eq-eqb, ne-eqb, lt-ltb}
@@ -12,6 +12,7 @@ use lib.IntN.{ℤ}
 use Rattle.basis.specs.Turns.{in-turn}
 use Rattle.basis.specs.Tests.{pick, and}
 use Rattle.basis.specs.Told.{Told, answered, refused}
+use Rattle.basis.proofs.TurnLaws.{turns-same}
 use Rattle.basis.proofs.TestLaws.{by-test, either, both, both-ways, refuted, fails, and-both, and-of}
 use Rattle.table.specs.Legal.{legal, Sized}
 use Rattle.table.specs.declared.Table.{Table}
@@ -28,7 +29,7 @@ use Rattle.scheduler.proofs.RefusalLaws.{refused-keeps}
 use Rattle.isolation.proofs.Isolation.{demand-3}
 use Rattle.actuator.specs.Motion.{ranged, drawn}
 use Rattle.actuator.specs.Drive.{Brought, Drove, ran, commanded, moved-to, follows, driven}
-use Rattle.actuator.specs.Runs.{drives, positions, Same-runs, step-part, Isolated-drives, Same-positions}
+use Rattle.actuator.specs.Runs.{drives, actuators, positions, Same-runs, step-part, Isolated-drives, Same-positions}
 use Rattle.actuator.specs.declared.Actuator.{Actuator}
 use Rattle.actuator.proofs.MoveLaws.{Case, stays, goes, case-of, ranged-stays}
 
@@ -146,13 +147,12 @@ module _ (t : Table) (ok : legal t ≡ true) (d : ℕ) (dd : d < t .domains) whe
   -- Passed: the drives are shown as the calls are.
   shown-drives : (bs : List Brought) (s : State) (a : Actuator) → accepted t a ≡ true
       → map (λ (r : Drove). shown-of t d (step-part r)) (drives t bs s a) ≡ map (shown-of t d) (calls t (sent bs) s)
-  unfolding drives in-turn calls
-  shown-drives [] s a h = refl
-  shown-drives (b ∷ bs) s a h =
-      let p : step-part (driven t b s a) ≡ taken t (b .bytes) s = part-taken t b s a h in
-      ap₂ _∷_ (ap (shown-of t d) p)
-      (shown-drives bs (driven t b s a .state) (driven t b s a .actuator) (accepted-stays t b s a h)
-      ∙ ap (λ (x : Taken). map (shown-of t d) (calls t (sent bs) (x .state))) p)
+  unfolding drives calls
+  shown-drives bs s a h =
+      turns-same _ _ _ _ _ _ (λ (x : State × Actuator) (r : State). (x .0 ≡ r) × (accepted t (x .1) ≡ true)) (λ (b : Brought). b .bytes)
+      (λ b x r k. let p : step-part (driven t b (x .0) (x .1)) ≡ taken t (b .bytes) r = part-taken t b (x .0) (x .1) (k .1) ∙ ap (taken t (b .bytes)) (k .0) in
+      (ap (shown-of t d) p, (ap (λ (w : Taken). w .state) p, accepted-stays t b (x .0) (x .1) (k .1))))
+      bs (s, a) s (refl, h)
 
   -- Two calls of which d is told the same: both are refused with the same, or in both or neither the thread ran that d may see.
   same-told : (x y : Told) → telling t d x ≡ telling t d y → eqb (x .number) 0 ≡ eqb (y .number) 0
@@ -255,9 +255,5 @@ isolated-actuators t ok z d dd a v us vs m =
     (λ h. still-actuators t ok z d dd a h us vs (m .commands))
 
 pub same-positions : (t : Table) → legal t ≡ true → Sized t → Same-positions t
-unfolding positions
-same-positions t ok z d dd a v us vs m =
-    let place : Actuator → ℤ = λ x. x .position in
-    let driven-one : Drove → Actuator = λ r. r .actuator in
-    ap (λ l. a .position ∷ l)
-    (sym (map-map place driven-one (drives t us fresh a)) ∙ ap (map place) (isolated-actuators t ok z d dd a v us vs m) ∙ map-map place driven-one (drives t vs fresh a))
+unfolding positions actuators
+same-positions t ok z d dd a v us vs m = ap (λ l. map (λ (x : Actuator). x .position) (a ∷ l)) (isolated-actuators t ok z d dd a v us vs m)

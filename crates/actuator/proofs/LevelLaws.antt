@@ -1,9 +1,9 @@
 -- A position in the range is a level: so many thousandths above -5,000. Orders, sums and distances of positions are those of their
 -- levels, natural numbers, which `omega` reads.
-use Prim.Native.Nat.{ℕ, zero, suc, _+_, _-_, _≤_, _<_, min}
+use Prim.Native.Nat.{ℕ, zero, suc, _+_, _-_, _≤_, _<_}
 use mathlib.Core.Path.{_≡_, refl, sym, _∙_, ap, ap₂, subst}
 use mathlib.Core.Bool.{Bool, true, false, not, cond, false≢true}
-use native.Mathlib.Nat.{lt-of-le-of-lt, min-le-right}
+use native.Mathlib.Nat.{lt-of-le-of-lt, le-trans}
 use native.Mathlib.Omega.{arith}
 use borrow.Author.Tests.{ltb-true, ltb-false, lt-ltb, le-ltb, leb-true, leb-false, le-leb, lt-leb}
 use lib.Dec.{T, ltb, leb, lit<, lit≤}
@@ -14,7 +14,7 @@ use mir.Val.{Fits, SFits, toZ, ofZ}
 use mir.ValLaws.{toZ-ofZ}
 use Rattle.basis.specs.Tests.{pick, and}
 use Rattle.basis.proofs.TestLaws.{by-test, either, and-both, and-of}
-use Rattle.actuator.specs.Motion.{lowest, highest, in-range, ranged, drawn, distance, towards, moved}
+use Rattle.actuator.specs.Motion.{lowest, highest, in-range, ranged, drawn, distance, towards, way, moved}
 use Rattle.actuator.specs.declared.Actuator.{Actuator}
 
 -- The position at a level.
@@ -277,15 +277,25 @@ towards-in p c w e f h =
     rw (l .is, k .is, towards-at (l .level) (k .level) w h′)
     (level-in (level-towards (l .level) (k .level) w) (level-towards-high (l .level) (k .level) w h′ (l .high) (k .high)))
 
+-- A way is no longer than the distance, and than the rate.
+pub way-near : (rate : ℕ) (p c : ℤ) → way rate p c ≤ distance p c
+unfolding way
+way-near rate p c = omega arith
+
+pub way-short : (rate : ℕ) (p c : ℤ) → way rate p c ≤ rate
+unfolding way
+way-short rate p c = omega arith
+
 pub moved-in : (rate : ℕ) (p c : ℤ) → in-range p ≡ true → in-range c ≡ true → in-range (moved rate p c) ≡ true
 unfolding moved
-moved-in rate p c e f = towards-in p c _ e f (min-le-right _ _)
+moved-in rate p c e f = towards-in p c _ e f (way-near rate p c)
 
-pub way-high : (rate : ℕ) (p c : ℤ) → in-range p ≡ true → in-range c ≡ true → min rate (distance p c) ≤ 100000
+pub way-high : (rate : ℕ) (p c : ℤ) → in-range p ≡ true → in-range c ≡ true → way rate p c ≤ 100000
 way-high rate p c e f =
     let l : Level p = level-of p e in
     let k : Level c = level-of c f in
-    rw (l .is, k .is, distance-at (l .level) (k .level)) (omega (arith, l .high, k .high))
+    let far : distance p c ≤ 100000 = rw (l .is, k .is, distance-at (l .level) (k .level)) (omega (arith, l .high, k .high)) in
+    le-trans (way-near rate p c) far
 
 pub drawn-in : (x : ℤ) → in-range (drawn x) ≡ true
 unfolding drawn

@@ -4,7 +4,7 @@ use Prim.Native.Nat.{ℕ, suc, _+_, _-_, _≤_, _<_, min}
 use mathlib.Core.Path.{_≡_, refl, sym, _∙_, ap, ap₂, subst}
 use mathlib.Core.Bool.{true, false}
 use mathlib.Core.Logic.{_≢_}
-use native.Mathlib.Nat.{le-trans, min-le-left, min-le-right}
+use native.Mathlib.Nat.{le-trans}
 use native.Mathlib.Omega.{arith}
 use borrow.Author.Tests.{eqb-true, eqb-false, ltb-true, ltb-false, leb-true, le-leb}
 use lib.Dec.{T, eqb, ltb, leb, leb→le, le→leb}
@@ -16,11 +16,11 @@ use Rattle.table.specs.declared.Table.{Table}
 use Rattle.scheduler.specs.Taken.{taken}
 use Rattle.scheduler.specs.Taken.{answer-of}
 use Rattle.state.specs.declared.State.{State}
-use Rattle.actuator.specs.Motion.{in-range, ranged, distance, towards, moved}
+use Rattle.actuator.specs.Motion.{in-range, ranged, distance, towards, way, moved}
 use Rattle.actuator.specs.Drive.{Brought, Drove, commanded, moved-to, follows, driven}
 use Rattle.actuator.specs.Runs.{Between}
 use Rattle.actuator.specs.declared.Actuator.{Actuator}
-use Rattle.actuator.proofs.LevelLaws.{at, sub-of, Sub, less, more, sub-far, sub-most, Level, level-of, distance-at, level-towards, towards-at, moved-in, ranged-position}
+use Rattle.actuator.proofs.LevelLaws.{at, sub-of, Sub, less, more, sub-far, sub-most, Level, level-of, distance-at, level-towards, towards-at, way-near, way-short, moved-in, ranged-position}
 use Rattle.actuator.proofs.DriveLaws.{commanded-in}
 use Rattle.actuator.proofs.NumberLaws.{most-of, of-most}
 
@@ -122,18 +122,18 @@ module _ (p c : ℤ) (w : ℕ) (e : in-range p ≡ true) (f : in-range c ≡ tru
 module _ (rate : ℕ) (p c : ℤ) (e : in-range p ≡ true) (f : in-range c ≡ true) where
   pub move-short : distance p (moved rate p c) ≤ rate
   unfolding moved
-  move-short = le-trans (towards-short p c _ e f (min-le-right _ _)) (min-le-left _ _)
+  move-short = le-trans (towards-short p c _ e f (way-near rate p c)) (way-short rate p c)
 
   pub move-nearer : distance (moved rate p c) c ≡ distance p c - rate
-  unfolding moved
-  move-nearer = towards-nearer p c _ e f (min-le-right _ _) ∙ less-the-smaller rate (distance p c)
+  unfolding moved way
+  move-nearer = towards-nearer p c _ e f (way-near rate p c) ∙ less-the-smaller rate (distance p c)
     where
       less-the-smaller : (r n : ℕ) → n - min r n ≡ n - r
       less-the-smaller r n = omega arith
 
   pub move-between : Between p c (moved rate p c)
   unfolding moved
-  move-between = towards-between p c _ e f (min-le-right _ _)
+  move-between = towards-between p c _ e f (way-near rate p c)
 
 -- A move leaves the actuator in its ranges.
 pub moved-ranged : (a : Actuator) (c : ℤ) → ranged a ≡ true → in-range c ≡ true → ranged (moved-to a c) ≡ true

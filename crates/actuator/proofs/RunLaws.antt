@@ -7,7 +7,7 @@ use native.Mathlib.Omega.{arith}
 use borrow.Author.Tests.{eq-eqb, ne-eqb, eqb-true, eqb-false}
 use lib.ListN.{length, getD, take}
 use lib.Dec.{eqb}
-use lib.IntN.{ℤ, pos}
+use lib.IntN.{ℤ}
 use Rattle.basis.specs.Turns.{in-turn}
 use Rattle.basis.specs.Tests.{pick}
 use Rattle.basis.proofs.TestLaws.{by-test, both-ways, either}
@@ -15,7 +15,7 @@ use Rattle.table.specs.declared.Table.{Table}
 use Rattle.state.specs.declared.State.{State}
 use Rattle.actuator.specs.Motion.{drawn, distance, moved}
 use Rattle.actuator.specs.Drive.{Brought, Drove, commanded, moved-to, follows, driven}
-use Rattle.actuator.specs.Runs.{drives, positions, position-after, steps-among, Range-kept, Rate-kept, Standing, ended, next, passed, Distance-falls, Between, Never-overshoots, Call-between}
+use Rattle.actuator.specs.Runs.{drives, actuators, actuator-after, position-after, steps-among, Range-kept, Command-kept, Rate-kept, Standing, ended, next, passed, Brings, no-more, again, Brought-stands, Distance-falls, Between, Never-overshoots, Call-between}
 use Rattle.actuator.specs.Numbered.{In-range}
 use Rattle.actuator.specs.declared.Actuator.{Actuator}
 use Rattle.actuator.proofs.LevelLaws.{moved-in, ranged-position}
@@ -23,7 +23,7 @@ use Rattle.actuator.proofs.NumberLaws.{in-range-sound, drive-refused-ke
 use Rattle.actuator.proofs.MoveLaws.{distance-self, distance-by, between-self, between-through, move-short, move-nearer, move-between, Case, stays, goes, case-of}
 
 module _ (t : Table) (b : Brought) (s : State) (a : Actuator) where
-  -- What one call does: it keeps the rate and the range, moves by the rate at most, and does not pass the command that stands after it.
+  -- What one call does: it keeps the rate and the ranges, moves by the rate at most, and does not pass the command that stands after it.
   rate-stays : driven t b s a .actuator .rate ≡ a .rate
   unfolding moved-to
   rate-stays = go (case-of t b s a)
@@ -39,6 +39,14 @@ module _ (t : Table) (b : Brought) (s : State) (a : Actuator) where
       go : Case t b s a → In-range (driven t b s a .actuator .position)
       go (stays z e) = rw e i
       go (goes c r f e) = rw e (in-range-sound (moved (a .rate) (a .position) c) (moved-in (a .rate) (a .position) c (ranged-position a r) f))
+
+  command-stays : In-range (a .command) → In-range (driven t b s a .actuator .command)
+  unfolding moved-to
+  command-stays i = go (case-of t b s a)
+    where
+      go : Case t b s a → In-range (driven t b s a .actuator .command)
+      go (stays z e) = rw e i
+      go (goes c r f e) = rw e (in-range-sound c f)
 
   call-short : distance (a .position) (driven t b s a .actuator .position) ≤ a .rate
   unfolding moved-to
@@ -61,10 +69,10 @@ module _ (t : Table) (b : Brought) (s : State) (a : Actuator) where
           rw (e, ← q) (move-nearer (a .rate) (a .position) x (ranged-position a r) f)
 
 -- The last command stays where the number brought is drawn to it.
-command-kept : (t : Table) (b : Brought) (s : State) (a : Actuator) (c : ℤ) → a .command ≡ c → drawn (b .command) ≡ c
+drawn-to-it : (t : Table) (b : Brought) (s : State) (a : Actuator) (c : ℤ) → a .command ≡ c → drawn (b .command) ≡ c
     → driven t b s a .actuator .command ≡ c
 unfolding driven follows moved-to commanded
-command-kept t b s a c e f =
+drawn-to-it t b s a c e f =
     let P : Drove → Type 0 = λ r. r .actuator .command ≡ c in
     both-ways P _ _ _ (both-ways P _ _ _ (both-ways P _ _ _ (both-ways (λ (x : ℤ). x ≡ c) _ _ _ f e) e) e) e
 
@@ -76,11 +84,19 @@ call-between t b s a = go (case-of t b s a)
     go (stays z e) = rw e (between-self (a .position) (a .command))
     go (goes c r f e) = rw e (move-between (a .rate) (a .position) c (ranged-position a r) f)
 
+-- What each call keeps of an actuator holds after every call of a run.
+kept-along : (t : Table) (P : Actuator → Type 0) → ((b : Brought) (s : State) (a : Actuator) → P a → P (driven t b s a .actuator))
+    → (bs : List Brought) (s : State) (a : Actuator) → P a → (k : ℕ) → k ≤ length bs → P (actuator-after t bs s a k)
+unfolding actuators drives in-turn
+kept-along t P keep bs s a i zero h = i
+kept-along t P keep [] s a i (suc k) h = absurd (not-suc-le-zero h)
+kept-along t P keep (b ∷ bs) s a i (suc k) h = kept-along t P keep bs _ _ (keep b s a i) k (le-of-suc-le-suc h)
+
 pub range-kept : Range-kept
-unfolding positions drives in-turn
-range-kept t bs s a i zero h = i
-range-kept t [] s a i (suc k) h = absurd (not-suc-le-zero h)
-range-kept t (b ∷ bs) s a i (suc k) h = range-kept t bs _ _ (range-stays t b s a i) k (le-of-suc-le-suc h)
+range-kept t bs s a i = kept-along t (λ x. In-range (x .position)) (range-stays t) bs s a i
+
+pub command-kept : Command-kept
+command-kept t bs s a i = kept-along t (λ x. In-range (x .command)) (command-stays t) bs s a i
 
 -- A refused call moves nothing.
 refused-stands : (t : Table) (b : Brought) (s : State) (a : Actuator) → 0 < driven t b s a .told .number
@@ -90,7 +106,7 @@ refused-stands t b s a n = ap (λ (x : Actuator). x .position) (drive-refused-ke
 -- From the first position, and from any other.
 rate-from-first : (t : Table) (bs : List Brought) (s : State) (a : Actuator) (k : ℕ) → k ≤ length bs
     → distance (a .position) (position-after t bs s a k) ≤ steps-among (take k (drives t bs s a)) * a .rate
-unfolding positions drives in-turn steps-among
+unfolding actuators drives in-turn steps-among
 rate-from-first t bs s a zero h = omega (arith, distance-self (a .position))
 rate-from-first t [] s a (suc k) h = absurd (not-suc-le-zero h)
 rate-from-first t (b ∷ bs) s a (suc k) h =
@@ -106,7 +122,7 @@ rate-from-first t (b ∷ bs) s a (suc k) h =
     subst (λ (p : ℤ). distance p q ≤ n * a .rate) (refused-stands t b s a (omega (arith, z))) rest′)
 
 pub rate-kept : Rate-kept
-unfolding positions drives in-turn
+unfolding actuators drives in-turn
 rate-kept t bs s a zero k h = rw zero-add (rate-from-first t bs s a k (omega arith))
 rate-kept t [] s a (suc i) k h = let h′ : suc i + k ≤ 0 = h in absurd (omega arith)
 rate-kept t (b ∷ bs) s a (suc i) k h =
@@ -124,7 +140,7 @@ few-steps (r ∷ rs) (suc k) =
     (omega (arith, few-steps rs k)) (omega (arith, few-steps rs k))
 
 pub distance-falls : Distance-falls
-unfolding positions drives in-turn steps-among pick
+unfolding actuators drives in-turn steps-among pick
 distance-falls t bs s a c z zero h = omega arith
 distance-falls t [] s a c z (suc k) h = absurd (not-suc-le-zero h)
 distance-falls t (b ∷ bs) s a c (next n e z) (suc k) h =
@@ -143,7 +159,7 @@ distance-falls t (b ∷ bs) s a c (passed n z) (suc k) h =
     rw (ne-eqb (r .told .number) 0 (λ e. omega (arith, n, e))) (rw (rate-stays t b s a, refused-stands t b s a n) at rest)
 
 pub never-overshoots : Never-overshoots
-unfolding positions drives in-turn
+unfolding actuators drives in-turn
 never-overshoots t bs s a c z zero h = between-self (a .position) c
 never-overshoots t [] s a c z (suc k) h = absurd (not-suc-le-zero h)
 never-overshoots t (b ∷ bs) s a c (next n e z) (suc k) h =
@@ -154,18 +170,12 @@ never-overshoots t (b ∷ bs) s a c (passed n z) (suc k) h =
     subst (λ (p : ℤ). Between p c (position-after t bs (r .state) (r .actuator) k)) (refused-stands t b s a n)
     (never-overshoots t bs (r .state) (r .actuator) c z k (le-of-suc-le-suc h))
 
--- A command stands where each call brings a number that is drawn to it, and it is the last command already.
-pub data Brings (c : ℤ) : List Brought → Type 0 where
-  no-more : Brings c []
-  again : {b : Brought} {bs : List Brought} → drawn (b .command) ≡ c → Brings c bs → Brings c (b ∷ bs)
-
-pub brought-stands : (t : Table) (bs : List Brought) (s : State) (a : Actuator) (c : ℤ) → a .command ≡ c → Brings c bs
-    → Standing c (drives t bs s a)
+pub brought-stands : Brought-stands
 unfolding drives in-turn
 brought-stands t [] s a c e z = ended
 brought-stands t (b ∷ bs) s a c e (again f z) =
     let r : Drove = driven t b s a in
-    let g : r .actuator .command ≡ c = command-kept t b s a c e f in
+    let g : r .actuator .command ≡ c = drawn-to-it t b s a c e f in
     let rest : Standing c (drives t bs (r .state) (r .actuator)) = brought-stands t bs (r .state) (r .actuator) c g z in
     by-test (eqb (r .told .number) 0)
     (λ q. next (eqb-true (r .told .number) 0 q) g rest)
@@ -179,8 +189,11 @@ module _ (t : Table) (bs : List Brought) (s : State) (a : Actuator) where
   pub range-to-the-end : In-range (a .position) → In-range last
   range-to-the-end i = range-kept t bs s a i (length bs) (omega arith)
 
+  pub command-to-the-end : In-range (a .command) → In-range (actuator-after t bs s a (length bs) .command)
+  command-to-the-end i = command-kept t bs s a i (length bs) (omega arith)
+
   pub rate-to-the-end : distance (a .position) last ≤ length bs * a .rate
-  unfolding positions
+  unfolding actuators
   rate-to-the-end =
       let r : distance (a .position) last ≤ steps-among (take (length bs) (drives t bs s a)) * a .rate =
       rw zero-add at (rate-kept t bs s a 0 (length bs) (omega arith)) in

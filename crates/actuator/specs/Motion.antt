@@ -33,9 +33,13 @@ distance a b = natAbs (a -ℤ b)
 unfoldable pub towards : ℤ → ℤ → ℕ → ℤ
 towards p c n = pick (ltZ p c) (p +ℤ pos n) (p -ℤ pos n)
 
--- A position moves towards the command by the smaller of the rate and the distance.
+-- The way of one step: the smaller of the rate and the distance.
+unfoldable pub way : ℕ → ℤ → ℤ → ℕ
+way rate p c = min rate (distance p c)
+
+-- A position moves towards the command by that way.
 unfoldable pub moved : ℕ → ℤ → ℤ → ℤ
-moved rate p c = towards p c (min rate (distance p c))
+moved rate p c = towards p c (way rate p c)
 
 -- At first the command is the start position.
 unfoldable pub start : ℤ → ℕ → ℕ → Actuator

@@ -1,4 +1,4 @@
--- Runs of any length, and what is promised of the position over them.
+-- Runs of any length, and what is promised of position and command over them.
 use Prim.Native.Nat.{ℕ, suc, _+_, _-_, _*_, _≤_, _<_}
 use mathlib.Core.Path.{_≡_}
 use mathlib.Core.List.{List, [], _∷_, map}
@@ -16,7 +16,7 @@ use Rattle.scheduler.specs.Taken.{Taken}
 use Rattle.sight.specs.Shown.{visible}
 use Rattle.isolation.specs.Isolated.{shown-of, Same-steps}
 use Rattle.state.specs.declared.State.{State}
-use Rattle.actuator.specs.Motion.{distance}
+use Rattle.actuator.specs.Motion.{drawn, distance}
 use Rattle.actuator.specs.Drive.{Brought, Drove, driven}
 use Rattle.actuator.specs.Numbered.{In-range}
 use Rattle.actuator.specs.declared.Actuator.{Actuator}
@@ -27,18 +27,30 @@ unfoldable pub drives : Table → List Brought → State → Actuator → List D
 drives t bs s a =
     in-turn (λ (b : Brought) (x : State × Actuator). driven t b (x .0) (x .1)) (λ (r : Drove). (r .state, r .actuator)) bs (s, a)
 
--- The position before the first call, and after each.
-unfoldable pub positions : Table → List Brought → State → Actuator → List ℤ
-positions t bs s a = a .position ∷ map (λ (r : Drove). r .actuator .position) (drives t bs s a)
+-- The actuator before the first call, and after each.
+unfoldable pub actuators : Table → List Brought → State → Actuator → List Actuator
+actuators t bs s a = a ∷ map (λ (r : Drove). r .actuator) (drives t bs s a)
 
--- The position after k calls.
+-- Its positions.
+unfoldable pub positions : Table → List Brought → State → Actuator → List ℤ
+positions t bs s a = map (λ (x : Actuator). x .position) (actuators t bs s a)
+
+-- The actuator after k calls, and where it stands. Past the last call, which no promise speaks of, all is zero.
+abbrev pub actuator-after : Table → List Brought → State → Actuator → ℕ → Actuator
+actuator-after t bs s a k = getD (actuators t bs s a) k (record { position = pos 0; command = pos 0; rate = 0; thread = 0 })
+
 abbrev pub position-after : Table → List Brought → State → Actuator → ℕ → ℤ
-position-after t bs s a k = getD (positions t bs s a) k (pos 0)
+position-after t bs s a k = actuator-after t bs s a k .position
 
 -- A position in its range stays there.
 abbrev pub Range-kept : Type 0
 Range-kept = (t : Table) (bs : List Brought) (s : State) (a : Actuator) → In-range (a .position)
     → (k : ℕ) → k ≤ length bs → In-range (position-after t bs s a k)
+
+-- So does a stored command: one that is taken is drawn into the range, and a refused call keeps the last.
+abbrev pub Command-kept : Type 0
+Command-kept = (t : Table) (bs : List Brought) (s : State) (a : Actuator) → In-range (a .command)
+    → (k : ℕ) → k ≤ length bs → In-range (actuator-after t bs s a k .command)
 
 -- How many calls of a run are steps: a refused call is none.
 unfoldable pub steps-among : List Drove → ℕ
@@ -59,6 +71,15 @@ pub data Standing (c : ℤ) : List Drove → Type 0 where
   ended : Standing c []
   next : {r : Drove} {rs : List Drove} → r .told .number ≡ 0 → r .actuator .command ≡ c → Standing c rs → Standing c (r ∷ rs)
   passed : {r : Drove} {rs : List Drove} → 0 < r .told .number → Standing c rs → Standing c (r ∷ rs)
+
+-- A command stands where it is the last one already and each call brings a number that is drawn to it.
+pub data Brings (c : ℤ) : List Brought → Type 0 where
+  no-more : Brings c []
+  again : {b : Brought} {bs : List Brought} → drawn (b .command) ≡ c → Brings c bs → Brings c (b ∷ bs)
+
+abbrev pub Brought-stands : Type 0
+Brought-stands = (t : Table) (bs : List Brought) (s : State) (a : Actuator) (c : ℤ) → a .command ≡ c → Brings c bs
+    → Standing c (drives t bs s a)
 
 -- Under it the distance after k steps is the larger of 0 and the first distance less k times the rate: `_-_` does not go below 0.
 abbrev pub Distance-falls : Type 0

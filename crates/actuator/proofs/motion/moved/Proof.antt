@@ -11,7 +11,7 @@ use mir.Syntax.{w32}
 use mir.Val.{SFits, toZ, ofZ}
 use mir.ValLaws.{toZ-ofZ}
 use Rattle.basis.specs.Tests.{pick}
-use Rattle.actuator.specs.Motion.{in-range, distance, towards, moved}
+use Rattle.actuator.specs.Motion.{in-range, distance, towards, way, moved}
 use Rattle.actuator.proofs.LevelLaws.{plain, in-fits, moved-in, way-high}
 use Rattle.actuator.proofs.motion.moved.Statement.{statement}
 use Rattle.actuator.proofs.motion.moved.Tie as tie
@@ -21,28 +21,29 @@ use Rattle.actuator.proofs.motion.distance.Reads as distance-reads
 use Rattle.actuator.proofs.motion.smaller.Reads as smaller-reads
 
 -- The way is the smaller of the rate and the distance, and it is short.
-way : (c : tie.After-smaller) → c .smaller .result ≡ min (c .before .before .args .rate) (distance (c .before .before .args .p) (c .before .before .args .c))
-way c =
+way-is : (c : tie.After-smaller) → c .smaller .result ≡ way (c .before .before .args .rate) (c .before .before .args .p) (c .before .before .args .c)
+unfolding way
+way-is c =
     let s = c .before .before in
     c .smaller .ensures ∙ ap (min (s .args .rate)) (c .before .distance .ensures ∙ ap₂ distance (toZ-ofZ w32 (s .args .p) (s .fits .p)) (toZ-ofZ w32 (s .args .c) (s .fits .c)))
 
 short : (c : tie.After-smaller) → SFits w32 (pos (c .smaller .result))
 short c =
     let s = c .before .before in
-    rw (way c) (record { sfits = lt-of-le-of-lt (way-high (s .args .rate) (s .args .p) (s .args .c) (s .pre .0) (s .pre .1)) (lit< tt) })
+    rw (way-is c) (record { sfits = lt-of-le-of-lt (way-high (s .args .rate) (s .args .p) (s .args .c) (s .pre .0) (s .pre .1)) (lit< tt) })
 
 -- What the machine adds, and what it takes away.
 added : (c : tie.After-smaller) → toZ w32 (ofZ w32 (c .before .before .args .p)) +ℤ toZ w32 (c .smaller .result)
-    ≡ c .before .before .args .p +ℤ pos (min (c .before .before .args .rate) (distance (c .before .before .args .p) (c .before .before .args .c)))
+    ≡ c .before .before .args .p +ℤ pos (way (c .before .before .args .rate) (c .before .before .args .p) (c .before .before .args .c))
 added c =
     let s = c .before .before in
-    ap₂ _+ℤ_ (toZ-ofZ w32 (s .args .p) (s .fits .p)) (toZ-ofZ w32 (pos (c .smaller .result)) (short c) ∙ ap pos (way c))
+    ap₂ _+ℤ_ (toZ-ofZ w32 (s .args .p) (s .fits .p)) (toZ-ofZ w32 (pos (c .smaller .result)) (short c) ∙ ap pos (way-is c))
 
 taken-off : (c : tie.After-smaller) → toZ w32 (ofZ w32 (c .before .before .args .p)) -ℤ toZ w32 (c .smaller .result)
-    ≡ c .before .before .args .p -ℤ pos (min (c .before .before .args .rate) (distance (c .before .before .args .p) (c .before .before .args .c)))
+    ≡ c .before .before .args .p -ℤ pos (way (c .before .before .args .rate) (c .before .before .args .p) (c .before .before .args .c))
 taken-off c =
     let s = c .before .before in
-    ap₂ _-ℤ_ (toZ-ofZ w32 (s .args .p) (s .fits .p)) (toZ-ofZ w32 (pos (c .smaller .result)) (short c) ∙ ap pos (way c))
+    ap₂ _-ℤ_ (toZ-ofZ w32 (s .args .p) (s .fits .p)) (toZ-ofZ w32 (pos (c .smaller .result)) (short c) ∙ ap pos (way-is c))
 
 -- Which way it goes.
 up : (c : tie.Then1) → toZ w32 (ofZ w32 (c .before .before .before .args .p)) +ℤ toZ w32 (c .before .smaller .result)
