@@ -1,3 +1,5 @@
+pub mod Entry
 pub mod Example
 pub mod Runs
 pub mod Known
+pub mod KnownBytes
