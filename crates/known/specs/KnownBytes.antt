@@ -128,13 +128,13 @@ known =
     -- 16 domains and 32 threads are legal
     ∷ record {
       computed = is-legal (table-of alone (map (λ (i : ℕ). task 15 i 10 0 1 1 0)
-      (0 ∷ 1 ∷ 2 ∷ 3 ∷ 4 ∷ 5 ∷ 6 ∷ 7 ∷ 8 ∷ 9 ∷ 10 ∷ 11 ∷ 12 ∷ 13 ∷ 14 ∷ 15 ∷ 16 ∷ 17 ∷ 18 ∷ 19 ∷ 20 ∷ 21 ∷ 22 ∷ 23 ∷ 24 ∷ 25 ∷ 26 ∷ 27 ∷ 28 ∷ 29 ∷ 30 ∷ 31 ∷ []))) ∷ [];
+          (0 ∷ 1 ∷ 2 ∷ 3 ∷ 4 ∷ 5 ∷ 6 ∷ 7 ∷ 8 ∷ 9 ∷ 10 ∷ 11 ∷ 12 ∷ 13 ∷ 14 ∷ 15 ∷ 16 ∷ 17 ∷ 18 ∷ 19 ∷ 20 ∷ 21 ∷ 22 ∷ 23 ∷ 24 ∷ 25 ∷ 26 ∷ 27 ∷ 28 ∷ 29 ∷ 30 ∷ 31 ∷ []))) ∷ [];
       by-hand = 1 ∷ [];
     }
     -- not legal: no domain, no thread, an unused row, an unused place with a blocking share or with a domain
     ∷ record {
       computed = map is-legal (table-of [] (upper ∷ []) ∷ with-threads [] ∷ row-too-many ∷ place-too-many (task 0 0 0 0 0 0 1)
-      ∷ place-too-many (task 1 0 0 0 0 0 0) ∷ []);
+          ∷ place-too-many (task 1 0 0 0 0 0 0) ∷ []);
       by-hand = 0 ∷ 0 ∷ 0 ∷ 0 ∷ 0 ∷ [];
     }
     -- not legal: a row with a bit for a domain that the table lacks, a row that lacks its own, rows that are not transitive
@@ -145,9 +145,9 @@ known =
     -- not legal: a domain of 2, a priority of 256 or taken, a period of 60,001, offset P, budget 0 and P + 1, deadline W - 1 and P + 1, share W + 1
     ∷ record {
       computed = map is-legal (two 3 2 upper (task 2 20 10 0 3 10 0) ∷ two 3 2 upper (task 0 256 10 0 3 10 0) ∷ two 3 2 upper (task 0 30 10 0 3 10 0)
-      ∷ two 3 2 upper (task 0 20 60001 0 3 10 0) ∷ two 3 2 upper (task 0 20 10 10 3 10 0) ∷ two 3 2 upper (task 0 20 10 0 0 10 0)
-      ∷ two 3 2 upper (task 0 20 10 0 11 10 0) ∷ two 3 2 upper (task 0 20 10 0 3 2 0) ∷ two 3 2 upper (task 0 20 10 0 3 11 0)
-      ∷ two 3 2 upper (task 0 20 10 0 3 10 4) ∷ []);
+          ∷ two 3 2 upper (task 0 20 60001 0 3 10 0) ∷ two 3 2 upper (task 0 20 10 10 3 10 0) ∷ two 3 2 upper (task 0 20 10 0 0 10 0)
+          ∷ two 3 2 upper (task 0 20 10 0 11 10 0) ∷ two 3 2 upper (task 0 20 10 0 3 2 0) ∷ two 3 2 upper (task 0 20 10 0 3 11 0)
+          ∷ two 3 2 upper (task 0 20 10 0 3 10 4) ∷ []);
       by-hand = replicate 10 0;
     }
     -- some thread of lower priority, not the next one down only: of three threads of domains 1, 0, 1 with priorities 2, 1, 3 both of domain 1
