@@ -1,13 +1,16 @@
 -- A statement of document 01: what the definitions compute, and what was found by hand.
 use Prim.Native.Nat.{ℕ}
 use mathlib.Core.Path.{_≡_}
-use mathlib.Core.List.{List, [], _∷_, _++_, map}
+use mathlib.Core.List.{List, _∷_, _++_, map}
 use mathlib.Core.Bool.{Bool}
+use lib.ListN.{length}
 use Rattle.basis.specs.Tests.{pick}
 use Rattle.basis.specs.Told.{Told}
+use Rattle.flow.specs.Gap.{first-gap, gap-told}
 use Rattle.table.specs.Legal.{legal}
 use Rattle.table.specs.Mark.{marking, marks-given}
 use Rattle.table.specs.declared.Table.{Table}
+use Rattle.numeral.specs.Number.{number-at, told as number-told}
 use Rattle.reader.specs.Reader.{reading}
 use Rattle.writer.specs.Writer.{writing, written}
 use Rattle.admission.specs.Admit.{admitting, bounds-given}
@@ -23,6 +26,14 @@ Holds es = map (λ (e : Entry). e .computed) es ≡ map (λ (e : Entry). e .by-h
 -- A number of document 01, followed by its values.
 abbrev pub flat : Told → List ℕ
 flat t = t .number ∷ t .values
+
+-- The number that a run of bytes starts with: 0, its value and the place after it, or the refusal.
+abbrev pub number-of : List ℕ → List ℕ
+number-of s = flat (number-told (number-at s 0))
+
+-- The first gap of as many domains as there are rows.
+abbrev pub gap-of : List ℕ → List ℕ
+gap-of rows = flat (gap-told (first-gap rows (length rows)))
 
 -- 1 for a legal table, 0 for another.
 abbrev pub is-legal : Table → ℕ

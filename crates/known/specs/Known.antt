@@ -4,26 +4,16 @@ use mathlib.Core.Path.{refl}
 use mathlib.Core.List.{List, [], _∷_, _++_}
 use mathlib.Core.Bool.{false}
 use lib.ListN.{replicate}
-use Rattle.flow.specs.Gap.{first-gap, gap-told}
 use Rattle.example.specs.Example.{example, upper, waiting}
-use Rattle.numeral.specs.Number.{number-at, told as number-told}
 use Rattle.reader.specs.Opened.{opened as reader-opened}
 use Rattle.scheduler.specs.Opened.{opened as steps-opened}
 use Rattle.sight.specs.Opened.{opened as sight-opened}
 use Rattle.admission.specs.Bounded.{bounding}
 use Rattle.admission.specs.Prohibition.{prohibiting}
 use Rattle.admission.specs.Opened.{opened as admission-opened}
-use Rattle.known.specs.Entry.{Entry, Holds, flat, is-legal, marks-told, admit-told}
+use Rattle.known.specs.Entry.{Entry, Holds, flat, number-of, gap-of, is-legal, marks-told, admit-told}
 use Rattle.known.specs.Example.{lower-with, two, both-ways, short-deadlines}
 use Rattle.known.specs.Runs.{ran, idle-for, idle, seen, gap, joined, left, at, state, answers, state-after, shown-to}
-
--- The number that a run of bytes starts with: 0, its value and the place after it, or the refusal.
-abbrev number-of : List ℕ → List ℕ
-number-of s = flat (number-told (number-at s 0))
-
--- The first gap of three domains with these rows.
-abbrev gap-of : ℕ → ℕ → ℕ → List ℕ
-gap-of a b c = flat (gap-told (first-gap (a ∷ b ∷ c ∷ replicate 13 0) 3))
 
 -- What E answers in document 01's run.
 abbrev waited : List ℕ
@@ -67,8 +57,8 @@ known =
     ∷ record { computed = number-of (0x80 ∷ 0x00 ∷ []); by-hand = 2 ∷ [] }
     ∷ record { computed = number-of (0x80 ∷ 0x80 ∷ 0x04 ∷ []); by-hand = 3 ∷ [] }
     -- K-8: rows 3, 6, 4 give 7 with 0, 1, 2; rows 7, 6, 4 pass
-    ∷ record { computed = gap-of 3 6 4; by-hand = 7 ∷ 0 ∷ 1 ∷ 2 ∷ [] }
-    ∷ record { computed = gap-of 7 6 4; by-hand = 0 ∷ [] }
+    ∷ record { computed = gap-of (3 ∷ 6 ∷ 4 ∷ []); by-hand = 7 ∷ 0 ∷ 1 ∷ 2 ∷ [] }
+    ∷ record { computed = gap-of (7 ∷ 6 ∷ 4 ∷ []); by-hand = 0 ∷ [] }
     -- K-9: its table is legal
     ∷ record { computed = is-legal short-deadlines ∷ []; by-hand = 1 ∷ [] }
     -- K-9: T0, T1, T1, idle

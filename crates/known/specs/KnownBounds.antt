@@ -1,7 +1,7 @@
 -- More of document 01 by hand: admission and the prohibition time.
 use Prim.Native.Nat.{ℕ}
 use mathlib.Core.Path.{refl}
-use mathlib.Core.List.{List, [], _∷_, _++_}
+use mathlib.Core.List.{List, [], _∷_}
 use lib.ListN.{replicate}
 use Rattle.table.specs.declared.Table.{Table}
 use Rattle.example.specs.Example.{task, example, upper, lower}

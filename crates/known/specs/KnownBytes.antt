@@ -1,27 +1,18 @@
 -- More of document 01 by hand: bytes of a table, legal tables, marks and the writer.
-use Prim.Native.Nat.{ℕ}
+use Prim.Native.Nat.{ℕ, _^_}
 use mathlib.Core.Path.{refl}
 use mathlib.Core.List.{List, [], _∷_, _++_, map}
 use lib.ListN.{set, take, replicate}
-use Rattle.flow.specs.Gap.{first-gap, gap-told}
+use Rattle.basis.specs.Search.{listed}
 use Rattle.table.specs.declared.Table.{Table}
 use Rattle.example.specs.Example.{table-of, task, example, example-bytes, upper, lower}
 use Rattle.example.specs.Story.{story}
-use Rattle.numeral.specs.Number.{number-at, told as number-told}
 use Rattle.reader.specs.Reader.{reading}
 use Rattle.reader.specs.Opened.{opened as reader-opened}
 use Rattle.writer.specs.Format.{bytes}
 use Rattle.writer.specs.Opened.{opened as writer-opened}
-use Rattle.known.specs.Entry.{Entry, Holds, flat, is-legal, read-told, marks-told, write-told}
+use Rattle.known.specs.Entry.{Entry, Holds, number-of, gap-of, is-legal, read-told, marks-told, write-told}
 use Rattle.known.specs.Example.{with-threads, row-too-many, place-too-many, two, written-out}
-
--- The number that a run of bytes starts with: the refusal.
-abbrev number-of : List ℕ → List ℕ
-number-of s = flat (number-told (number-at s 0))
-
--- The first gap of five domains with these rows.
-abbrev gap-of : ℕ → ℕ → ℕ → ℕ → ℕ → List ℕ
-gap-of a b c d e = flat (gap-told (first-gap (a ∷ b ∷ c ∷ d ∷ e ∷ replicate 11 0) 5))
 
 -- Two threads with each number as high, and as low, as it may be: 255, 60,000, 59,999 and three times 60,000; 0, 1, 0, 1, 1, 0.
 abbrev extremes : List ℕ
@@ -35,8 +26,8 @@ abbrev eight-rows : List ℕ
 eight-rows = 0x01 ∷ 0x08 ∷ 0x01 ∷ 0x03 ∷ 0x06 ∷ 0x04 ∷ 0x08 ∷ 0x10 ∷ 0x20 ∷ 0x40 ∷ 0x80 ∷ 0x01 ∷ []
 
 -- Sixteen domains that flow to themselves only, and 32 threads, thread i with the priority i.
-abbrev alone : List ℕ
-alone = 0x0001 ∷ 0x0002 ∷ 0x0004 ∷ 0x0008 ∷ 0x0010 ∷ 0x0020 ∷ 0x0040 ∷ 0x0080 ∷ 0x0100 ∷ 0x0200 ∷ 0x0400 ∷ 0x0800 ∷ 0x1000 ∷ 0x2000 ∷ 0x4000 ∷ 0x8000 ∷ []
+abbrev widest : Table
+widest = table-of (listed 16 (λ i. 2 ^ i)) (listed 32 (λ i. task 15 i 10 0 1 1 0))
 
 abbrev known : List Entry
 known =
@@ -79,12 +70,12 @@ known =
     -- 7: the start of the last row, where it takes two bytes
     ∷ record { computed = read-told eight-rows; by-hand = 7 ∷ 10 ∷ 0 ∷ 1 ∷ 2 ∷ [] }
     -- 7: smallest a, then b, then c: 0 flows to 1 and 2, 1 to 4, 2 to 3; b goes before c, so 0, 1, 4 and not 0, 2, 3
-    ∷ record { computed = gap-of 0x07 0x12 0x0C 0x08 0x10; by-hand = 7 ∷ 0 ∷ 1 ∷ 4 ∷ [] }
+    ∷ record { computed = gap-of (0x07 ∷ 0x12 ∷ 0x0C ∷ 0x08 ∷ 0x10 ∷ []); by-hand = 7 ∷ 0 ∷ 1 ∷ 4 ∷ [] }
     ∷ record { computed = read-told (0x01 ∷ 0x05 ∷ 0x01 ∷ 0x07 ∷ 0x12 ∷ 0x0C ∷ 0x08 ∷ 0x10 ∷ []); by-hand = 7 ∷ 7 ∷ 0 ∷ 1 ∷ 4 ∷ [] }
     -- 7: with 3 flowing to 0, too: a goes before b and c, so 0, 1, 4 and neither 3, 0, 1 nor 2, 3, 0
-    ∷ record { computed = gap-of 0x07 0x12 0x0C 0x09 0x10; by-hand = 7 ∷ 0 ∷ 1 ∷ 4 ∷ [] }
+    ∷ record { computed = gap-of (0x07 ∷ 0x12 ∷ 0x0C ∷ 0x09 ∷ 0x10 ∷ []); by-hand = 7 ∷ 0 ∷ 1 ∷ 4 ∷ [] }
     -- 7: 0 flows to 1, and 1 to 2, 3 and 4: the smallest c is 2
-    ∷ record { computed = gap-of 0x03 0x1E 0x04 0x08 0x10; by-hand = 7 ∷ 0 ∷ 1 ∷ 2 ∷ [] }
+    ∷ record { computed = gap-of (0x03 ∷ 0x1E ∷ 0x04 ∷ 0x08 ∷ 0x10 ∷ []); by-hand = 7 ∷ 0 ∷ 1 ∷ 2 ∷ [] }
     -- 8: thread 0's domain 2, priority 256, period 0, offset 10, budget 11, deadline 3, blocking share 5
     ∷ record { computed = read-told (set example-bytes 5 0x02); by-hand = 8 ∷ 5 ∷ [] }
     ∷ record { computed = read-told (take 6 example-bytes ++ (0x80 ∷ 0x02 ∷ [])); by-hand = 8 ∷ 6 ∷ [] }
@@ -126,11 +117,7 @@ known =
       by-hand = 1 ∷ 1 ∷ 1 ∷ 1 ∷ [];
     }
     -- 16 domains and 32 threads are legal
-    ∷ record {
-      computed = is-legal (table-of alone (map (λ (i : ℕ). task 15 i 10 0 1 1 0)
-          (0 ∷ 1 ∷ 2 ∷ 3 ∷ 4 ∷ 5 ∷ 6 ∷ 7 ∷ 8 ∷ 9 ∷ 10 ∷ 11 ∷ 12 ∷ 13 ∷ 14 ∷ 15 ∷ 16 ∷ 17 ∷ 18 ∷ 19 ∷ 20 ∷ 21 ∷ 22 ∷ 23 ∷ 24 ∷ 25 ∷ 26 ∷ 27 ∷ 28 ∷ 29 ∷ 30 ∷ 31 ∷ []))) ∷ [];
-      by-hand = 1 ∷ [];
-    }
+    ∷ record { computed = is-legal widest ∷ []; by-hand = 1 ∷ [] }
     -- not legal: no domain, no thread, an unused row, an unused place with a blocking share or with a domain
     ∷ record {
       computed = map is-legal (table-of [] (upper ∷ []) ∷ with-threads [] ∷ row-too-many ∷ place-too-many (task 0 0 0 0 0 0 1)

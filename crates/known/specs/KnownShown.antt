@@ -1,10 +1,9 @@
 -- More of document 01 by hand: what a domain is shown.
-use Prim.Native.Nat.{ℕ}
 use mathlib.Core.Path.{refl}
-use mathlib.Core.List.{List, [], _∷_, _++_}
+use mathlib.Core.List.{List, [], _∷_}
 use mathlib.Core.Bool.{true, false}
 use Rattle.example.specs.Example.{example}
-use Rattle.state.specs.State.{no-progress, fresh}
+use Rattle.state.specs.State.{no-progress}
 use Rattle.state.specs.declared.State.{State}
 use Rattle.walk.specs.declared.Answer.the-variants.{Ran, IdleFor, Idle}
 use Rattle.sight.specs.Opened.{opened as sight-opened}

@@ -1,5 +1,4 @@
 -- More of document 01 by hand: single calls of the step, each with the whole state that it hands back, and runs of calls.
-use Prim.Native.Nat.{ℕ}
 use mathlib.Core.Path.{refl}
 use mathlib.Core.List.{List, [], _∷_, _++_}
 use mathlib.Core.Bool.{true, false}
