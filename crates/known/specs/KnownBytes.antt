@@ -14,12 +14,22 @@ use Rattle.writer.specs.Opened.{opened as writer-opened}
 use Rattle.known.specs.Entry.{Entry, Holds, number-of, gap-of, is-legal, read-told, marks-told, write-told}
 use Rattle.known.specs.Example.{with-threads, row-too-many, place-too-many, two, written-out}
 
--- Two threads with each number as high, and as low, as it may be: 255, 60,000, 59,999 and three times 60,000; 0, 1, 0, 1, 1, 0.
-abbrev extremes : List ℕ
-extremes =
+-- Two threads with each number as high, and as low, as it may be; and its bytes.
+abbrev extremes : Table
+extremes = table-of (1 ∷ []) (task 0 255 60000 59999 60000 60000 60000 ∷ task 0 0 1 0 1 1 0 ∷ [])
+
+abbrev extreme-bytes : List ℕ
+extreme-bytes =
     0x01 ∷ 0x01 ∷ 0x02 ∷ 0x01
     ∷ 0x00 ∷ 0xFF ∷ 0x01 ∷ 0xE0 ∷ 0xD4 ∷ 0x03 ∷ 0xDF ∷ 0xD4 ∷ 0x03 ∷ 0xE0 ∷ 0xD4 ∷ 0x03 ∷ 0xE0 ∷ 0xD4 ∷ 0x03 ∷ 0xE0 ∷ 0xD4 ∷ 0x03
     ∷ 0x00 ∷ 0x00 ∷ 0x01 ∷ 0x00 ∷ 0x01 ∷ 0x01 ∷ 0x00 ∷ []
+
+-- One thread whose seven fields all differ, and its bytes.
+abbrev different : Table
+different = table-of (1 ∷ []) (task 0 5 10 3 2 7 1 ∷ [])
+
+abbrev different-bytes : List ℕ
+different-bytes = 0x01 ∷ 0x01 ∷ 0x01 ∷ 0x01 ∷ 0x00 ∷ 0x05 ∷ 0x0A ∷ 0x03 ∷ 0x02 ∷ 0x07 ∷ 0x01 ∷ []
 
 -- Eight domains, of which 0 flows to 1 and 1 to 2 only; the last row, 128, takes two bytes.
 abbrev eight-rows : List ℕ
@@ -36,6 +46,9 @@ known =
     ∷ record { computed = bytes example; by-hand = example-bytes }
     ∷ record { computed = read-told example-bytes; by-hand = 0 ∷ [] }
     ∷ record { computed = written-out (reading example-bytes .table); by-hand = written-out example }
+    -- the fields in their order: domain, priority, P, O, W, D, B
+    ∷ record { computed = written-out (reading different-bytes .table); by-hand = written-out different }
+    ∷ record { computed = bytes different; by-hand = different-bytes }
     -- a byte wanted but missing gives 1, also where the byte before it is the second
     ∷ record { computed = number-of (0x80 ∷ []); by-hand = 1 ∷ [] }
     ∷ record { computed = number-of (0x80 ∷ 0x80 ∷ []); by-hand = 1 ∷ [] }
@@ -89,7 +102,10 @@ known =
     ∷ record { computed = read-told (set example-bytes 9 0x00); by-hand = 8 ∷ 9 ∷ [] }
     ∷ record { computed = read-told (set example-bytes 10 0x0B); by-hand = 8 ∷ 10 ∷ [] }
     -- each range to its ends: priority 255 and 0, P 60,000 and 1, O P - 1, W P, D P, B W and 0
-    ∷ record { computed = read-told extremes; by-hand = 0 ∷ [] }
+    ∷ record { computed = read-told extreme-bytes; by-hand = 0 ∷ [] }
+    ∷ record { computed = written-out (reading extreme-bytes .table); by-hand = written-out extremes }
+    ∷ record { computed = bytes extremes; by-hand = extreme-bytes }
+    ∷ record { computed = is-legal extremes ∷ []; by-hand = 1 ∷ [] }
     -- 9: thread 1 with thread 0's priority
     ∷ record { computed = read-told (set example-bytes 13 0x1E); by-hand = 9 ∷ 13 ∷ [] }
     -- 10: the first extra byte
@@ -142,6 +158,8 @@ known =
       computed = marks-told (with-threads (task 1 2 10 0 1 10 0 ∷ task 0 1 10 0 1 10 0 ∷ task 1 3 10 0 1 10 0 ∷ []));
       by-hand = 0 ∷ 1 ∷ 0 ∷ 1 ∷ replicate 29 0;
     }
+    -- of lower priority only: thread 1 may not flow to thread 0's domain, and stands below it
+    ∷ record { computed = marks-told (two 3 2 (task 0 30 10 0 4 10 2) (task 1 20 10 0 3 10 0)); by-hand = 0 ∷ replicate 32 0 }
     -- the mark goes by priority, not by place: E with its threads exchanged
     ∷ record { computed = marks-told (two 3 2 lower upper); by-hand = 0 ∷ 0 ∷ 1 ∷ replicate 30 0 }
     -- marks of a table that is not legal: 11 and no marks
