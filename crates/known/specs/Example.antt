@@ -30,6 +30,10 @@ two a b x y = table-of (a ∷ b ∷ []) (x ∷ y ∷ [])
 abbrev pub with-threads : List Thread → Table
 with-threads ths = table-of (3 ∷ 2 ∷ []) ths
 
+-- E with its threads exchanged: thread 1 stands above, and is marked.
+abbrev pub exchanged : Table
+exchanged = two 3 2 lower upper
+
 -- K-4's table: E with row 1 as 3.
 abbrev pub both-ways : Table
 both-ways = two 3 3 upper lower

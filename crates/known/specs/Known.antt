@@ -29,7 +29,7 @@ known =
     record { computed = marks-told example; by-hand = 0 ∷ 1 ∷ 0 ∷ replicate 30 0 }
     -- K-2: E's ten answers
     ∷ record { computed = answers example waiting; by-hand = waited }
-    -- K-3: E with thread 0 sending 1 always
+    -- K-3: E with thread 0 sending 1 always: T0 four times, T1 three times, idle three times
     ∷ record {
       computed = answers example (replicate 10 1);
       by-hand = joined (replicate 4 (ran 0) ++ (replicate 3 (ran 1) ++ replicate 3 idle));
@@ -39,7 +39,7 @@ known =
     ∷ record { computed = shown-to example 0 waiting; by-hand = waited-shown }
     -- K-4: E with row 1 as 3 has no marks
     ∷ record { computed = marks-told both-ways; by-hand = 0 ∷ replicate 32 0 }
-    -- K-4: its answers
+    -- K-4: T0, T1, T1, T1, then idle six times
     ∷ record { computed = answers both-ways waiting; by-hand = joined (ran 0 ∷ ran 1 ∷ ran 1 ∷ ran 1 ∷ replicate 6 idle) }
     -- K-5: E's bounds are 4 and 7
     ∷ record { computed = admit-told example; by-hand = 0 ∷ 4 ∷ 7 ∷ replicate 30 0 }

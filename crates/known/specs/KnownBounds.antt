@@ -9,7 +9,7 @@ use Rattle.admission.specs.Bounded.{bounding}
 use Rattle.admission.specs.Prohibition.{prohibiting}
 use Rattle.admission.specs.Opened.{opened as admission-opened}
 use Rattle.known.specs.Entry.{Entry, Holds, flat, admit-told}
-use Rattle.known.specs.Example.{later, lower-with, top, two, with-threads, both-ways, row-too-many}
+use Rattle.known.specs.Example.{later, lower-with, top, two, with-threads, exchanged, both-ways, row-too-many}
 use Rattle.known.specs.Runs.{joined}
 
 -- What `bound_of` and `prohibition` tell.
@@ -50,7 +50,7 @@ known =
     ∷ record { computed = prohibition-told both-ways 1; by-hand = 0 ∷ 0 ∷ [] }
     ∷ record { computed = prohibition-told (with-threads (task 0 40 10 0 2 10 2 ∷ upper ∷ lower ∷ [])) 2; by-hand = 0 ∷ 2 ∷ [] }
     -- threads above only, wherever they stand
-    ∷ record { computed = joined (prohibition-told (two 3 2 lower upper) 0 ∷ prohibition-told (two 3 2 lower upper) 1 ∷ []); by-hand = joined ((0 ∷ 2 ∷ []) ∷ (0 ∷ 0 ∷ []) ∷ []) }
+    ∷ record { computed = joined (prohibition-told exchanged 0 ∷ prohibition-told exchanged 1 ∷ []); by-hand = joined ((0 ∷ 2 ∷ []) ∷ (0 ∷ 0 ∷ []) ∷ []) }
     -- ceil(P of h / P of l) times B of h: P of h is 10, B 2; P of l is 4, then 5, then 20
     ∷ record { computed = prohibition-told (two 3 2 upper (task 0 20 4 0 3 4 0)) 1; by-hand = 0 ∷ 6 ∷ [] }
     ∷ record { computed = prohibition-told (two 3 2 upper (task 0 20 5 0 3 5 0)) 1; by-hand = 0 ∷ 4 ∷ [] }

@@ -12,7 +12,7 @@ use Rattle.reader.specs.Opened.{opened as reader-opened}
 use Rattle.writer.specs.Format.{bytes}
 use Rattle.writer.specs.Opened.{opened as writer-opened}
 use Rattle.known.specs.Entry.{Entry, Holds, number-of, gap-of, is-legal, read-told, marks-told, write-told}
-use Rattle.known.specs.Example.{with-threads, row-too-many, place-too-many, two, written-out}
+use Rattle.known.specs.Example.{two, with-threads, exchanged, both-ways, row-too-many, place-too-many, written-out}
 
 -- Two threads with each number as high, and as low, as it may be; and its bytes.
 abbrev extremes : Table
@@ -129,7 +129,7 @@ known =
     ∷ record { computed = written-out (reading (example-bytes ++ (0x00 ∷ [])) .table); by-hand = replicate 242 0 }
     -- threads stand in any order; two domains need not flow to one another, and may flow both ways
     ∷ record {
-      computed = map is-legal (two 3 2 lower upper ∷ two 1 2 upper lower ∷ two 3 3 upper lower ∷ story ∷ []);
+      computed = map is-legal (exchanged ∷ two 1 2 upper lower ∷ both-ways ∷ story ∷ []);
       by-hand = 1 ∷ 1 ∷ 1 ∷ 1 ∷ [];
     }
     -- 16 domains and 32 threads are legal
@@ -161,7 +161,7 @@ known =
     -- of lower priority only: thread 1 may not flow to thread 0's domain, and stands below it
     ∷ record { computed = marks-told (two 3 2 (task 0 30 10 0 4 10 2) (task 1 20 10 0 3 10 0)); by-hand = 0 ∷ replicate 32 0 }
     -- the mark goes by priority, not by place: E with its threads exchanged
-    ∷ record { computed = marks-told (two 3 2 lower upper); by-hand = 0 ∷ 0 ∷ 1 ∷ replicate 30 0 }
+    ∷ record { computed = marks-told exchanged; by-hand = 0 ∷ 0 ∷ 1 ∷ replicate 30 0 }
     -- marks of a table that is not legal: 11 and no marks
     ∷ record { computed = marks-told row-too-many; by-hand = 11 ∷ replicate 32 0 }
     -- E written into 24 bytes from place 3 on: the place after it is 22, and the bytes around it stay

@@ -1,4 +1,5 @@
 -- More of document 01 by hand: single calls of the step, each with the whole state that it hands back, and runs of calls.
+use Prim.Native.Nat.{ℕ}
 use mathlib.Core.Path.{refl}
 use mathlib.Core.List.{List, [], _∷_, _++_}
 use mathlib.Core.Bool.{true, false}
@@ -10,12 +11,8 @@ use Rattle.state.specs.State.{no-progress, fresh}
 use Rattle.state.specs.declared.State.{State}
 use Rattle.scheduler.specs.Opened.{opened as steps-opened}
 use Rattle.known.specs.Entry.{Entry, Holds}
-use Rattle.known.specs.Example.{later, later-short, lower-with, top, two, with-threads, both-ways, short-deadlines, row-too-many}
+use Rattle.known.specs.Example.{later, later-short, lower-with, top, two, with-threads, exchanged, both-ways, short-deadlines, row-too-many}
 use Rattle.known.specs.Runs.{ran, idle-for, idle, refused-with, joined, left, at, gives, call, answers}
-
--- E with its threads exchanged: thread 1 stands above, and is marked.
-abbrev exchanged : Table
-exchanged = two 3 2 lower upper
 
 -- Thread 0's rest of 5 is above its budget of 4; the same at the last clock; and a state that fits there.
 abbrev misfit : State
@@ -26,6 +23,10 @@ misfit-last = at 1000000000 (left 5 false 0 ∷ [])
 
 abbrev last : State
 last = at 1000000000 (left 2 true 7 ∷ left 1 false 9 ∷ [])
+
+-- A call that is refused hands back the state that it was given.
+abbrev refusal : ℕ → Table → State → List ℕ → Entry
+refusal why t s bs = record { computed = call t s bs; by-hand = gives (refused-with why) s }
 
 abbrev known : List Entry
 known =
@@ -163,36 +164,33 @@ known =
       by-hand = gives (ran 0) (at 2 (left 3 false 2 ∷ left 3 true 1 ∷ []));
     }
     -- 12 and the state as it was: thread 1's rest above its W of 3, its count above the clock, a clock above 1,000,000,000
-    ∷ record { computed = call example (at 1 (left 4 false 0 ∷ left 4 false 0 ∷ [])) (1 ∷ 1 ∷ []); by-hand = gives (refused-with 12) (at 1 (left 4 false 0 ∷ left 4 false 0 ∷ [])) }
-    ∷ record { computed = call example (at 1 (left 0 false 0 ∷ left 0 false 2 ∷ [])) (1 ∷ 1 ∷ []); by-hand = gives (refused-with 12) (at 1 (left 0 false 0 ∷ left 0 false 2 ∷ [])) }
-    ∷ record { computed = call example (at 1000000001 []) (1 ∷ 1 ∷ []); by-hand = gives (refused-with 12) (at 1000000001 []) }
+    ∷ refusal 12 example (at 1 (left 4 false 0 ∷ left 4 false 0 ∷ [])) (1 ∷ 1 ∷ [])
+    ∷ refusal 12 example (at 1 (left 0 false 0 ∷ left 0 false 2 ∷ [])) (1 ∷ 1 ∷ [])
+    ∷ refusal 12 example (at 1000000001 []) (1 ∷ 1 ∷ [])
     -- 12: the place past the last thread has a rest, a finish mark or a count; and the last place of all a finish mark
-    ∷ record { computed = call example (at 1 (no-progress ∷ no-progress ∷ left 1 false 0 ∷ [])) (1 ∷ 1 ∷ []); by-hand = gives (refused-with 12) (at 1 (no-progress ∷ no-progress ∷ left 1 false 0 ∷ [])) }
-    ∷ record { computed = call example (at 1 (no-progress ∷ no-progress ∷ left 0 true 0 ∷ [])) (1 ∷ 1 ∷ []); by-hand = gives (refused-with 12) (at 1 (no-progress ∷ no-progress ∷ left 0 true 0 ∷ [])) }
-    ∷ record { computed = call example (at 1 (no-progress ∷ no-progress ∷ left 0 false 1 ∷ [])) (1 ∷ 1 ∷ []); by-hand = gives (refused-with 12) (at 1 (no-progress ∷ no-progress ∷ left 0 false 1 ∷ [])) }
-    ∷ record {
-      computed = call example (at 1 (replicate 31 no-progress ++ (left 0 true 0 ∷ []))) (1 ∷ 1 ∷ []);
-      by-hand = gives (refused-with 12) (at 1 (replicate 31 no-progress ++ (left 0 true 0 ∷ [])));
-    }
+    ∷ refusal 12 example (at 1 (no-progress ∷ no-progress ∷ left 1 false 0 ∷ [])) (1 ∷ 1 ∷ [])
+    ∷ refusal 12 example (at 1 (no-progress ∷ no-progress ∷ left 0 true 0 ∷ [])) (1 ∷ 1 ∷ [])
+    ∷ refusal 12 example (at 1 (no-progress ∷ no-progress ∷ left 0 false 1 ∷ [])) (1 ∷ 1 ∷ [])
+    ∷ refusal 12 example (at 1 (replicate 31 no-progress ++ (left 0 true 0 ∷ []))) (1 ∷ 1 ∷ [])
     -- 13: a byte too few, one too many, and none
-    ∷ record { computed = call example fresh (1 ∷ []); by-hand = gives (refused-with 13) (at 0 []) }
-    ∷ record { computed = call example fresh (1 ∷ 1 ∷ 1 ∷ []); by-hand = gives (refused-with 13) (at 0 []) }
-    ∷ record { computed = call example fresh []; by-hand = gives (refused-with 13) (at 0 []) }
+    ∷ refusal 13 example fresh (1 ∷ [])
+    ∷ refusal 13 example fresh (1 ∷ 1 ∷ 1 ∷ [])
+    ∷ refusal 13 example fresh []
     -- K-11: clock 999,999,999 steps, to the last clock; 1,000,000,000 gives 14
     ∷ record {
       computed = call example (at 999999999 (left 1 false 7 ∷ left 1 false 999999999 ∷ [])) (1 ∷ 1 ∷ []);
       by-hand = gives (ran 0) (at 1000000000 (left 0 false 8 ∷ left 1 false 999999999 ∷ []));
     }
-    ∷ record { computed = call example last (1 ∷ 1 ∷ []); by-hand = gives (refused-with 14) last }
+    ∷ refusal 14 example last (1 ∷ 1 ∷ [])
     -- the order 11, 12, 13, 14, with the state as it was: 11 before 12, 12 before 13, 13 before 14
-    ∷ record { computed = call row-too-many misfit (1 ∷ 1 ∷ []); by-hand = gives (refused-with 11) misfit }
-    ∷ record { computed = call example misfit (1 ∷ []); by-hand = gives (refused-with 12) misfit }
-    ∷ record { computed = call example last (1 ∷ []); by-hand = gives (refused-with 13) last }
+    ∷ refusal 11 row-too-many misfit (1 ∷ 1 ∷ [])
+    ∷ refusal 12 example misfit (1 ∷ [])
+    ∷ refusal 13 example last (1 ∷ [])
     -- 11 before 13 and 14, 12 before 14; and all four faults
-    ∷ record { computed = call row-too-many fresh (1 ∷ []); by-hand = gives (refused-with 11) (at 0 []) }
-    ∷ record { computed = call row-too-many last (1 ∷ 1 ∷ []); by-hand = gives (refused-with 11) last }
-    ∷ record { computed = call example misfit-last (1 ∷ 1 ∷ []); by-hand = gives (refused-with 12) misfit-last }
-    ∷ record { computed = call row-too-many misfit-last (1 ∷ []); by-hand = gives (refused-with 11) misfit-last }
+    ∷ refusal 11 row-too-many fresh (1 ∷ [])
+    ∷ refusal 11 row-too-many last (1 ∷ 1 ∷ [])
+    ∷ refusal 12 example misfit-last (1 ∷ 1 ∷ [])
+    ∷ refusal 11 row-too-many misfit-last (1 ∷ [])
     ∷ []
 
 pub all-steps : Holds known
