@@ -1,68 +1,94 @@
--- Runs of example E and of a second table from a fresh start, and how their answers are written as numbers.
-use Prim.Native.Nat.{ℕ, _+_}
+-- Calls of the step, and what a domain is shown, written as numbers: through the public operations' definitions.
+use Prim.Native.Nat.{ℕ, _-_}
 use mathlib.Core.List.{List, [], _∷_, _++_, map}
+use mathlib.Core.Bool.{Bool}
+use lib.ListN.{length, replicate}
 use Rattle.basis.specs.Tests.{pick}
 use Rattle.basis.specs.Turns.{after}
 use Rattle.table.specs.declared.Table.{Table}
-use Rattle.example.specs.Example.{table-of, task, sent}
-use Rattle.state.specs.State.{no-progress, with-rest, progress, put, fresh}
+use Rattle.example.specs.Example.{sent}
+use Rattle.state.specs.State.{no-progress, with-rest, with-mark, with-count, fresh}
 use Rattle.state.specs.declared.Progress.{Progress}
 use Rattle.state.specs.declared.State.{State}
-use Rattle.walk.specs.Step.{step}
 use Rattle.walk.specs.declared.Answer.{Answer}
-use Rattle.walk.specs.declared.Answer.the-variants.{Ran, IdleFor, Idle}
-use Rattle.walk.specs.declared.Walked.{Walked}
-use Rattle.scheduler.specs.Calls.{steps}
-use Rattle.sight.specs.Shown.{view}
+use Rattle.scheduler.specs.Taken.{Taken, answer-of, taken}
+use Rattle.scheduler.specs.Calls.{calls}
+use Rattle.sight.specs.Shown.{showing, showing-state, threads-shown}
+use Rattle.known.specs.Entry.{flat}
 
--- Thread i ran, the processor idles for i, or for nobody.
-abbrev pub ran : ℕ → ℕ
-ran i = i
+-- A call's number and values: thread i ran, the processor idles for i, or for nobody; or it is refused with a number.
+abbrev pub ran : ℕ → List ℕ
+ran i = 0 ∷ 0 ∷ i ∷ []
 
-abbrev pub idle-for : ℕ → ℕ
-idle-for i = 32 + i
+abbrev pub idle-for : ℕ → List ℕ
+idle-for i = 0 ∷ 1 ∷ i ∷ []
 
-abbrev pub idle : ℕ
-idle = 255
+abbrev pub idle : List ℕ
+idle = 0 ∷ 2 ∷ []
 
-abbrev as-number : Answer → ℕ
-as-number (Ran i) = ran i
-as-number (IdleFor i) = idle-for i
-as-number Idle = idle
+abbrev pub refused-with : ℕ → List ℕ
+refused-with why = why ∷ []
 
--- The answers of a run of steps, in turn.
-abbrev pub run : Table → List (List ℕ) → State → List Answer
-run t a s = map (λ (w : Walked). w .answer) (steps t a s)
+-- What a domain is shown: 0 and thread i, or 0 and 255 for a gap; or it is refused with a number, and 255.
+abbrev pub seen : ℕ → List ℕ
+seen i = 0 ∷ i ∷ []
 
--- The answers from a state, and from a fresh start.
-abbrev pub answers-from : State → Table → List ℕ → List ℕ
-answers-from s t bs = map as-number (run t (sent bs) s)
+abbrev pub gap : List ℕ
+gap = 0 ∷ 255 ∷ []
 
+abbrev pub not-shown : ℕ → List ℕ
+not-shown why = why ∷ 255 ∷ []
+
+abbrev or-255 : List ℕ → List ℕ
+or-255 [] = 255 ∷ []
+or-255 (i ∷ more) = i ∷ more
+
+-- Lists one after the other.
+abbrev pub joined : List (List ℕ) → List ℕ
+joined [] = []
+joined (x ∷ xs) = x ++ joined xs
+
+-- A thread's rest, finish mark and count; a state by its clock and the threads that it begins with, zeros in the other places.
+abbrev pub left : ℕ → Bool → ℕ → Progress
+left rest mark n = with-rest rest (with-mark mark (with-count n no-progress))
+
+abbrev pub places : List Progress → List Progress
+places ps = ps ++ replicate (32 - length ps) no-progress
+
+abbrev pub at : ℕ → List Progress → State
+at c ps = record { clock = c; threads = places ps }
+
+-- A state as numbers: the clock, and the rest, the mark and the count of each of the 32 places.
+abbrev pub each : List Progress → List ℕ
+each [] = []
+each (p ∷ ps) = p .rest ∷ pick (p .finished) 1 0 ∷ p .ran ∷ each ps
+
+abbrev pub state : State → List ℕ
+state s = s .clock ∷ each (s .threads)
+
+-- What one call gives: its number and values, and the state that it hands back.
+abbrev pub gives : List ℕ → State → List ℕ
+gives answer s = answer ++ state s
+
+abbrev of-taken : Taken → List ℕ
+of-taken r = gives (flat (r .told)) (r .state)
+
+abbrev pub call : Table → State → List ℕ → List ℕ
+call t s bs = of-taken (taken t bs s)
+
+-- The answers of a run of calls from a fresh start, thread 0 sending these bytes and thread 1 always 1; and the state after them.
 abbrev pub answers : Table → List ℕ → List ℕ
-answers t bs = answers-from fresh t bs
+answers t bs = joined (map (λ (r : Taken). flat (r .told)) (calls t (sent bs) fresh))
 
--- The state after these steps from a fresh start, by the rest, the mark and the count of threads 0 and 1.
-abbrev pub after-steps : Table → List (List ℕ) → State → State
-after-steps t a s = after (step t) (λ (w : Walked). w .state) a s
+abbrev pub state-after : Table → List ℕ → List ℕ
+state-after t bs = state (after (taken t) (λ (r : Taken). r .state) (sent bs) fresh)
 
-abbrev written : Progress → List ℕ
-written p = p .rest ∷ pick (p .finished) 1 0 ∷ p .ran ∷ []
-
-abbrev pub left-after : Table → List ℕ → List ℕ
-left-after t bs = written (progress (after-steps t (sent bs) fresh) 0) ++ written (progress (after-steps t (sent bs) fresh) 1)
-
--- A fresh state but for thread 0, which has a rest of 2.
-abbrev pub resting : State
-resting = put fresh 0 (with-rest 2 no-progress)
-
--- What a domain is shown at each step: a thread, or idle for a gap.
-abbrev first-value : List ℕ → ℕ
-first-value [] = idle
-first-value (i ∷ more) = i
+-- What a domain is shown of an answer; of each call of such a run; and of a state.
+abbrev pub shown : Table → ℕ → Answer → List ℕ
+shown t d a = showing t d a .number ∷ or-255 (showing t d a .values)
 
 abbrev pub shown-to : Table → ℕ → List ℕ → List ℕ
-shown-to t d bs = map (λ (a : Answer). first-value (view t d a .values)) (run t (sent bs) fresh)
+shown-to t d bs = joined (map (λ (r : Taken). shown t d (answer-of (r .told .values))) (calls t (sent bs) fresh))
 
--- K-9's table: one domain, P 10, O 0, B 0; thread 0 above with W 1, D 1, thread 1 with W 3, D 3.
-abbrev pub short-deadlines : Table
-short-deadlines = table-of (1 ∷ []) (task 0 2 10 0 1 1 0 ∷ task 0 1 10 0 3 3 0 ∷ [])
+abbrev pub shown-state : Table → State → ℕ → List ℕ
+shown-state t s d = flat (showing-state t s d) ++ each (threads-shown t s d)
