@@ -24,7 +24,7 @@ use Rattle.state.specs.declared.State.{State}
 use Rattle.state.proofs.FitLaws.{fits-complete}
 use Rattle.walk.proofs.StepLaws.{chosen-rested}
 use Rattle.walk.proofs.PaidLaws.{pays-once, payments-most}
-use Rattle.walk.proofs.ChoiceLaws.{below-chosen, idle-only, chosen-pays}
+use Rattle.walk.proofs.ChoiceLaws.{below-chosen, idle-only, chosen-first, chosen-says, reached-pay-one}
 use Rattle.scheduler.proofs.RefusalLaws.{number-exactly, refused-keeps, same-refusal, taken-steps}
 use Rattle.scheduler.proofs.CallLaws.{calls-steps}
 use Rattle.sight.specs.Shown.{showing-state, threads-shown}
@@ -72,9 +72,11 @@ demand-2-holds = record {
   call-steps = λ t ok bs e s f l. taken-steps t bs s ok (fits-complete t s f) e l;
   run-steps = calls-steps;
   chosen-rested = chosen-rested;
-  below-chosen = below-chosen;
+  chosen-says = chosen-says;
+  chosen-first = chosen-first;
   idle-only = idle-only;
-  chosen-pays = λ t few bs s f i l n. chosen-pays t bs s few f i l n;
+  reached-pay-one = reached-pay-one;
+  below-chosen = below-chosen;
   pays-once = pays-once;
   payments-most = payments-most;
   bounds = bound-exactly;

@@ -10,7 +10,7 @@ use Rattle.basis.specs.Search.{found, nothing}
 use Rattle.basis.specs.Told.{answered}
 use Rattle.table.specs.Threads.{thread}
 use Rattle.table.specs.Legal.{legal, Sized, Legal}
-use Rattle.table.specs.Mark.{Leaks, marked, marks-given}
+use Rattle.table.specs.Mark.{Leaks, marked, marks-of, marks-given}
 use Rattle.table.specs.declared.Table.{Table}
 use Rattle.numeral.specs.NumberRules.{Bytes}
 use Rattle.reader.specs.Reader.{accepted, reading}
@@ -20,7 +20,7 @@ use Rattle.state.specs.State.{progress, last-clock, Fits}
 use Rattle.state.specs.Release.{release, releases}
 use Rattle.state.specs.declared.State.{State}
 use Rattle.walk.specs.Walk.{runs}
-use Rattle.walk.specs.Step.{step, Rested, Names}
+use Rattle.walk.specs.Step.{step, Rested, Names, Says}
 use Rattle.walk.specs.Paid.{pays, payments}
 use Rattle.walk.specs.declared.Answer.the-variants.{Idle}
 use Rattle.scheduler.specs.Taken.{took, taken}
@@ -45,17 +45,23 @@ pub record Demand-2 : Type 0 where
       → taken t bs s ≡ took (step t bs s)
   pub run-steps : (t : Table) → legal t ≡ true → (a : List (List ℕ)) → Whole-steps t a → (s : State) → Fits t s
       → s .clock + length a ≤ last-clock → calls t a s ≡ map took (steps t a s)
-  -- The thread chosen had a rest; those below it are as the release left them; and the processor idles on nobody's account only where no
-  -- thread with a rest runs or is marked.
+  -- The thread chosen had a rest, and it runs, or is marked and waits; above it no thread with a rest runs or is marked.
   pub chosen-rested : (t : Table) (bs : List ℕ) (s : State) → Rested (step t bs s .answer) (release t (t .count) s)
-  pub below-chosen : (t : Table) (bs : List ℕ) (s : State) (i k : ℕ) → Names i (step t bs s .answer)
-      → thread t k .priority < thread t i .priority → progress (step t bs s .state) k ≡ progress (release t (t .count) s) k
+  pub chosen-says : (t : Table) (bs : List ℕ) (s : State) → Says (marks-of t) bs (release t (t .count) s) (step t bs s .answer)
+  pub chosen-first : (t : Table) → Legal t → (bs : List ℕ) (s : State) (k i : ℕ) → Names k (step t bs s .answer)
+      → thread t k .priority < thread t i .priority → i < t .count → 0 < progress (release t (t .count) s) i .rest
+      → (marked t i ≡ false) × (runs (getD bs i 0) (progress (release t (t .count) s) i) ≡ false)
+  -- The processor idles on nobody's account only where no thread with a rest runs or is marked.
   pub idle-only : (t : Table) → Legal t → (bs : List ℕ) (s : State) → step t bs s .answer ≡ Idle → (i : ℕ) → i < t .count
       → 0 < progress (release t (t .count) s) i .rest
       → (marked t i ≡ false) × (runs (getD bs i 0) (progress (release t (t .count) s) i) ≡ false)
-  -- The thread that an answer names pays one, every thread one at most, and between two releases W at most.
-  pub chosen-pays : (t : Table) → t .count ≤ 32 → (bs : List ℕ) (s : State) → Fits t s → (i : ℕ) → i < t .count
-      → Names i (step t bs s .answer) → pays t bs s i ≡ 1
+  -- Every thread with a rest down to the chosen one, or all where nobody is chosen, pays one; those below it are as the release left them.
+  pub reached-pay-one : (t : Table) → Legal t → (bs : List ℕ) (s : State) → Fits t s → (i : ℕ) → i < t .count
+      → 0 < progress (release t (t .count) s) i .rest
+      → ((k : ℕ) → Names k (step t bs s .answer) → thread t k .priority ≤ thread t i .priority) → pays t bs s i ≡ 1
+  pub below-chosen : (t : Table) (bs : List ℕ) (s : State) (i k : ℕ) → Names i (step t bs s .answer)
+      → thread t k .priority < thread t i .priority → progress (step t bs s .state) k ≡ progress (release t (t .count) s) k
+  -- So a thread pays one at most in a step, and between two releases W at most.
   pub pays-once : (t : Table) (bs : List ℕ) (s : State) (i : ℕ) → pays t bs s i ≤ 1
   pub payments-most : (t : Table) (i : ℕ) (bs : List ℕ) (more : List (List ℕ)) (s : State) → i < t .count → Fits t s
       → ((c : ℕ) → s .clock < c → c ≤ s .clock + length more → releases t i c ≡ false) → payments t i (bs ∷ more) s ≤ thread t i .budget

@@ -22,7 +22,7 @@ story-legal = refl
 -- The monitor's domain may not flow to the pitch loop's.
 pub same-step : (x y : ℕ) → Same-step story 0 (1 ∷ 1 ∷ x ∷ []) (1 ∷ 1 ∷ y ∷ [])
 unfolding opened
-same-step x y = record { long = refl; same = same }
+same-step x y = record { long = refl; same = λ i v. cc (same i v) }
   where
     same : (i : ℕ) → visible story 0 i ≡ true → getD (1 ∷ 1 ∷ x ∷ []) i 0 ≡ getD (1 ∷ 1 ∷ y ∷ []) i 0
     same zero v = refl

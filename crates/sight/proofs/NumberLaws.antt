@@ -1,6 +1,6 @@
 -- Each number of what a domain is shown is given exactly when its row holds, by asking the tests in turn.
 use Prim.Native.Nat.{ℕ, _<_}
-use mathlib.Core.Path.{_≡_, refl}
+use mathlib.Core.Path.{_≡_, refl, ap}
 use mathlib.Core.Logic.{_↔_}
 use mathlib.Core.Bool.{true, false}
 use native.Mathlib.Omega.{arith}
@@ -17,13 +17,16 @@ use Rattle.state.specs.State.{no-progress, fits}
 use Rattle.state.specs.declared.State.{State}
 use Rattle.walk.specs.declared.Answer.{Answer}
 use Rattle.walk.specs.declared.Answer.the-variants.{Ran, IdleFor, Idle}
-use Rattle.sight.specs.Shown.{view, showing, showing-state, threads-shown}
+use Rattle.sight.specs.Shown.{visible, view, showing, showing-state, threads-shown}
+use Rattle.sight.proofs.SightLaws.{seen-run, unseen-gap}
 use Rattle.sight.specs.Numbered.{View-numbered, not-legal, no-domain, shows, State-numbered, illegal, misfit, lacks-domain, shows-state}
 
 -- A thread or a gap is no refusal.
 view-number : (t : Table) (d : ℕ) (a : Answer) → view t d a .number ≡ 0
 unfolding view
-view-number t d (Ran i) = both-ways (λ (w : Told). w .number ≡ 0) _ _ _ refl refl
+view-number t d (Ran i) =
+    let number : Told → ℕ = λ w. w .number in
+    by-test (visible t d i) (λ e. ap number (seen-run t d i e)) (λ e. ap number (unseen-gap t d i e))
 view-number t d (IdleFor i) = refl
 view-number t d Idle = refl
 

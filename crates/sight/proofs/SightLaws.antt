@@ -1,7 +1,7 @@
 -- What is hidden from d is not shown to it: an answer is a gap, and of a state only what d may see counts.
 use Prim.Native.Nat.{ℕ}
 use mathlib.Core.Path.{_≡_, refl, ap, fun-ext}
-use mathlib.Core.List.{[]}
+use mathlib.Core.List.{[], _∷_}
 use mathlib.Core.Bool.{true, false}
 use Rattle.basis.specs.Tests.{pick}
 use Rattle.basis.specs.Search.{listed}
@@ -14,6 +14,10 @@ use Rattle.walk.specs.declared.Answer.the-variants.{Ran, IdleFor, Idle}
 use Rattle.sight.specs.Shown.{visible, view, seen-progress, seen-threads}
 
 module _ (t : Table) (d : ℕ) where
+  pub seen-run : (i : ℕ) → visible t d i ≡ true → view t d (Ran i) ≡ answered (i ∷ [])
+  unfolding view pick
+  seen-run i e = rw e
+
   pub unseen-gap : (i : ℕ) → visible t d i ≡ false → view t d (Ran i) ≡ answered []
   unfolding view pick
   unseen-gap i v = rw v

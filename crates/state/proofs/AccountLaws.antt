@@ -27,10 +27,7 @@ pub released-fair : (th : Thread) (c : ℕ) → Fair (released th c)
 unfolding released at-phase
 released-fair th c p q e =
     let R : Progress → Progress → Type 0 = λ x y. account x ≡ account y in
-    let f : ℕ = (c - th .offset) % th .period in
-    both R (ltb c (th .offset)) _ refl (λ _. e) (λ _.
-    both R (eqb f 0) _ refl (λ _. refl) (λ _.
-    both R (leb (th .deadline) f) _ refl (λ _. refl) (λ _. e)))
+    both R _ _ refl (λ _. e) (λ _. both R _ _ refl (λ _. cc) (λ _. both R _ _ refl (λ _. refl) (λ _. e)))
 
 pub paid-fair : Fair paid
 paid-fair p q e = rw e

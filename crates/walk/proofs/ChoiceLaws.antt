@@ -26,7 +26,7 @@ use Rattle.state.proofs.ReleaseLaws.{release-length}
 use Rattle.order.specs.Order.{order, Stands}
 use Rattle.order.proofs.OrderLaws.{Falling-from, order-falls-from, order-whole}
 use Rattle.walk.specs.Walk.{heard, runs, walked, decided, visit, chosen, walk}
-use Rattle.walk.specs.Step.{ticked, advance, step, Names, ran, idles}
+use Rattle.walk.specs.Step.{ticked, advance, step, Names, ran, idles, Says}
 use Rattle.walk.specs.declared.Answer.{Answer}
 use Rattle.walk.specs.declared.Answer.the-variants.{Ran, IdleFor, Idle}
 use Rattle.walk.specs.declared.Walked.{Walked}
@@ -165,7 +165,7 @@ idle-only t g bs s e i l h =
     let w = walk-idle t (marks-of t) bs i 256 (order t) _ (order-falls-from t) e (order-whole t g i l) h in
     (sym (marks-at t i l) ∙ w .0, w .1)
 
--- The thread that a visit names pays one.
+-- What a reached thread has left once it has paid.
 module _ (m : List Bool) (b i : ℕ) (s : State) (l : i < length (s .threads)) where
   heard-rest : progress (heard b i s) i .rest ≡ progress s i .rest
   unfolding heard finish
@@ -185,34 +185,137 @@ module _ (m : List Bool) (b i : ℕ) (s : State) (l : i < length (s .threads)) w
       let q : State = put (heard b i s) i (paid (progress (heard b i s) i)) in
       ap (λ (x : Progress). x .rest) (put-same q i _ (rw (length-set (heard b i s .threads) i (paid (progress (heard b i s) i)), heard-long) l)) ∙ paid-rest
 
-  visit-pays : Names i (visit m b i s .answer) → progress (visit m b i s .state) i .rest + 1 ≡ progress s i .rest
-  unfolding visit
-  visit-pays =
-      let P : Walked → Type 0 = λ w. Names i (w .answer) → progress (w .state) i .rest + 1 ≡ progress s i .rest in
-      either P (eqb (progress s i .rest) 0) (λ e. nobody i)
-      (λ e.
-      let some = eqb-false (progress s i .rest) 0 e in
-      reached-pays m b i (heard b i s) P (λ n. omega (arith, counted-rest)) (λ n. omega (arith, paid-rest)) (nobody i))
+module _ (t : Table) (m : List Bool) (bs : List ℕ) where
+  -- Above the thread that a walk names, nobody with a rest runs or is marked.
+  walk-first : (i k p : ℕ) (is : List ℕ) (s : State) → Falling-from t p is → Names k (walk m bs is s .answer)
+      → thread t k .priority < thread t i .priority → Stands i is → 0 < progress s i .rest
+      → (getD m i false ≡ false) × (runs (getD bs i 0) (progress s i) ≡ false)
+  walk-first i k p [] s f n l h r = absurd h
+  walk-first i k p (j ∷ js) s f n l h r =
+      by-test (chosen (visit m (getD bs j 0) j s .answer))
+      (λ c.
+      let v : Names k (visit m (getD bs j 0) j s .answer) = rw (walk-stop m bs j js s c) at n in
+      let e : k ≡ j = visit-names m _ j s k v in
+      let u : thread t j .priority < thread t i .priority = rw e at l in
+      ⊎-elim (λ (q : i ≡ j). let z : thread t j .priority < thread t j .priority = rw q at u in absurd (omega arith))
+      (λ (q : Stands i js). absurd (omega (arith, stands-lower t m bs i _ js (f .1) q, u)))
+      h)
+      (λ c. ⊎-elim
+      (λ (q : i ≡ j). rw q (passed-over m _ j s c (rw q at r)))
+      (λ (q : Stands i js).
+      let o : progress (visit m (getD bs j 0) j s .state) i ≡ progress s i = visit-others m _ j s i (apart t i j (stands-lower t m bs i _ js (f .1) q)) in
+      let w = walk-first i k _ js _ (f .1) (rw (walk-on m bs j js s c) at n) l q (rw o r) in
+      rw o at w)
+      h)
+
+-- The chosen thread is the first: above it no thread with a rest runs or is marked.
+pub chosen-first : (t : Table) → Legal t → (bs : List ℕ) (s : State) (k i : ℕ) → Names k (step t bs s .answer)
+    → thread t k .priority < thread t i .priority → i < t .count → 0 < progress (release t (t .count) s) i .rest
+    → (marked t i ≡ false) × (runs (getD bs i 0) (progress (release t (t .count) s) i) ≡ false)
+unfolding step advance ticked
+chosen-first t g bs s k i n l c h =
+    let w = walk-first t (marks-of t) bs i k 256 (order t) _ (order-falls-from t) n l (order-whole t g i c) h in
+    (sym (marks-at t i c) ∙ w .0, w .1)
+
+-- Hearing does not change whether a thread runs: its byte is 1 or it does not run before and after.
+heard-runs : (b i : ℕ) (s : State) → runs b (progress (heard b i s) i) ≡ runs b (progress s i)
+unfolding runs heard pick
+heard-runs b i s =
+    by-test (eqb b 1)
+    (λ e. let one : b ≡ 1 = eqb-true b 1 e in rw one)
+    (λ e. rw e)
+
+module _ (m : List Bool) (bs : List ℕ) where
+  visit-says : (i : ℕ) (s : State) → Says m bs s (visit m (getD bs i 0) i s .answer)
+  unfolding visit decided
+  visit-says i s =
+      let P : Walked → Type 0 = λ w. Says m bs s (w .answer) in
+      let b : ℕ = getD bs i 0 in
+      either P (eqb (progress s i .rest) 0) (λ e. tt)
+      (λ e. either P (runs (getD bs i 0) (progress (heard (getD bs i 0) i s) i)) (λ r. sym (heard-runs b i s) ∙ r)
+      (λ r. either P (getD m i false) (λ k. (k, sym (heard-runs b i s) ∙ r)) (λ k. tt)))
 
 module _ (t : Table) (m : List Bool) (bs : List ℕ) where
-  walk-pays : (i p : ℕ) (is : List ℕ) (s : State) → Falling-from t p is → i < length (s .threads) → Names i (walk m bs is s .answer)
-      → progress (walk m bs is s .state) i .rest + 1 ≡ progress s i .rest
+  -- What is said of a thread is said where its progress is the same.
+  says-back : (s z : State) (a : Answer) → ((k : ℕ) → Names k a → progress z k ≡ progress s k) → Says m bs z a → Says m bs s a
+  says-back s z (Ran k) o h = let e : progress z k ≡ progress s k = o k ran in rw e at h
+  says-back s z (IdleFor k) o h = let e : progress z k ≡ progress s k = o k idles in (h .0, rw e at (h .1))
+  says-back s z Idle o h = tt
+
+  walk-says : (p : ℕ) (is : List ℕ) (s : State) → Falling-from t p is → Says m bs s (walk m bs is s .answer)
   unfolding walk
-  walk-pays i p [] s f l n = nobody i n
-  walk-pays i p (j ∷ js) s f l n =
-      let P : Walked → Type 0 = λ w. Names i (w .answer) → progress (w .state) i .rest + 1 ≡ progress s i .rest in
+  walk-says p [] s f = tt
+  walk-says p (j ∷ js) s f =
+      let P : Walked → Type 0 = λ w. Says m bs s (w .answer) in
+      let z : State = visit m (getD bs j 0) j s .state in
+      both-ways P (chosen (visit m (getD bs j 0) j s .answer)) (visit m (getD bs j 0) j s) (walk m bs js z) (visit-says m bs j s)
+      (says-back s z (walk m bs js z .answer) (λ k n. visit-others m _ j s k (apart t k j (walk-named t m bs k _ js z (f .1) n)))
+      (walk-says (thread t j .priority) js z (f .1)))
+
+  -- A walk leaves alone a thread whose priority is at least p.
+  walk-apart : (i p : ℕ) (is : List ℕ) (s : State) → Falling-from t p is → p ≤ thread t i .priority → progress (walk m bs is s .state) i ≡ progress s i
+  unfolding walk
+  walk-apart i p [] s f h = refl
+  walk-apart i p (j ∷ js) s f h =
+      let Q : Walked → Type 0 = λ w. progress (w .state) i ≡ progress s i in
+      let d : i ≢ j = λ e. apart t j i (omega (arith, f .0, h)) (sym e) in
+      let o : progress (visit m (getD bs j 0) j s .state) i ≡ progress s i = visit-others m _ j s i d in
+      both-ways Q _ _ _ o (walk-apart i _ js _ (f .1) (omega (arith, f .0, h)) ∙ o)
+
+  -- A visit that chooses names its thread.
+  chosen-named : (b i : ℕ) (s : State) → chosen (visit m b i s .answer) ≡ true → Names i (visit m b i s .answer)
+  unfolding visit decided
+  chosen-named b i s =
+      let P : Walked → Type 0 = λ w. chosen (w .answer) ≡ true → Names i (w .answer) in
+      both-ways P _ _ _ (λ c. absurd (true≢false (sym c))) (both-ways P _ _ _ (λ c. ran) (both-ways P _ _ _ (λ c. idles) (λ c. absurd (true≢false (sym c)))))
+
+  -- A visit to a thread with a rest takes one of it.
+  visit-takes : (b i : ℕ) (s : State) → i < length (s .threads) → 0 < progress s i .rest → progress (visit m b i s .state) i .rest + 1 ≡ progress s i .rest
+  visit-takes b i s l h =
+      let P : Walked → Type 0 = λ w. progress (w .state) i .rest + 1 ≡ progress s i .rest in
+      rw (reached m b i s h)
+      (reached-pays m b i (heard b i s) P (omega (arith, counted-rest m b i s l)) (omega (arith, paid-rest m b i s l)) (omega (arith, paid-rest m b i s l)))
+
+  -- Every thread with a rest down to the one that a walk names, or all if it names nobody, pays one.
+  walk-takes : (i p : ℕ) (is : List ℕ) (s : State) → Falling-from t p is → i < length (s .threads) → Stands i is → 0 < progress s i .rest
+      → ((k : ℕ) → Names k (walk m bs is s .answer) → thread t k .priority ≤ thread t i .priority)
+      → progress (walk m bs is s .state) i .rest + 1 ≡ progress s i .rest
+  walk-takes i p [] s f l h r n = absurd h
+  walk-takes i p (j ∷ js) s f l h r n =
       let long : length (visit m (getD bs j 0) j s .state .threads) ≡ length (s .threads)
       = visit-keeps (λ x. length (x .threads)) (λ x k q. length-set (x .threads) k q) m (getD bs j 0) j s in
-      both-ways P _ _ _
-      (λ v. let e : i ≡ j = visit-names m _ j s i v in rw e (visit-pays m (getD bs j 0) j s (rw e at l) (rw e at v)))
-      (λ w. walk-pays i _ js _ (f .1) (rw long l) w ∙ ap (λ (q : Progress). q .rest) (visit-others m _ j s i (apart t i j (walk-named t m bs i _ js _ (f .1) w))))
-      n
+      by-test (chosen (visit m (getD bs j 0) j s .answer))
+      (λ c.
+      let u : thread t j .priority ≤ thread t i .priority = n j (rw (walk-stop m bs j js s c) (chosen-named (getD bs j 0) j s c)) in
+      rw (walk-stop m bs j js s c)
+      (⊎-elim (λ (q : i ≡ j). rw q (visit-takes (getD bs j 0) j s (rw q at l) (rw q at r)))
+      (λ (q : Stands i js). absurd (omega (arith, stands-lower t m bs i _ js (f .1) q, u)))
+      h))
+      (λ c.
+      rw (walk-on m bs j js s c)
+      (⊎-elim
+      (λ (q : i ≡ j).
+      let a : progress (walk m bs js (visit m (getD bs j 0) j s .state) .state) j ≡ progress (visit m (getD bs j 0) j s .state) j
+      = walk-apart j _ js _ (f .1) (omega arith) in
+      let v = visit-takes (getD bs j 0) j s (rw q at l) (rw q at r) in
+      rw (q, a) v)
+      (λ (q : Stands i js).
+      let o : progress (visit m (getD bs j 0) j s .state) i ≡ progress s i = visit-others m _ j s i (apart t i j (stands-lower t m bs i _ js (f .1) q)) in
+      let w = walk-takes i _ js _ (f .1) (rw long l) q (rw o r) (λ k x. n k (rw (walk-on m bs j js s c) x)) in
+      rw o at w)
+      h))
 
--- The thread that an answer names, which ran or on whose account the processor idles, pays one.
-pub chosen-pays : (t : Table) (bs : List ℕ) (s : State) → t .count ≤ 32 → Fits t s → (i : ℕ) → i < t .count → Names i (step t bs s .answer)
-    → pays t bs s i ≡ 1
+-- The chosen thread runs, or it is marked and waits.
+pub chosen-says : (t : Table) (bs : List ℕ) (s : State) → Says (marks-of t) bs (release t (t .count) s) (step t bs s .answer)
+unfolding step advance ticked
+chosen-says t bs s = walk-says t (marks-of t) bs 256 (order t) _ (order-falls-from t)
+
+-- Every thread with a rest, down to the chosen one or all where nobody is chosen, pays one.
+pub reached-pay-one : (t : Table) → Legal t → (bs : List ℕ) (s : State) → Fits t s → (i : ℕ) → i < t .count → 0 < progress (release t (t .count) s) i .rest
+    → ((k : ℕ) → Names k (step t bs s .answer) → thread t k .priority ≤ thread t i .priority) → pays t bs s i ≡ 1
 unfolding pays step advance ticked tick
-chosen-pays t bs s few f i l n =
+reached-pay-one t g bs s f i l h n =
     let long : length (release t (t .count) s .threads) ≡ 32 = release-length t (t .count) s ∙ f .long in
-    let w = walk-pays t (marks-of t) bs i 256 (order t) (release t (t .count) s) (order-falls-from t) (rw long (omega arith)) n in
+    let few : t .count ≤ 32 = g .count-high in
+    let w = walk-takes t (marks-of t) bs i 256 (order t) (release t (t .count) s) (order-falls-from t) (rw long (omega arith)) (order-whole t g i l) h n in
     omega (arith, w)

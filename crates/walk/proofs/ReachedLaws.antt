@@ -16,7 +16,7 @@ module _ (m : List Bool) (b i : ℕ) (s : State) where
   -- It has paid in each of its three cases: it runs, the processor idles on its account, or the walk goes on.
   pub reached-pays : (P : Walked → Type 0) → P (walked (Ran i) (count (pay s i) i)) → P (walked (IdleFor i) (pay s i)) → P (walked Idle (pay s i))
       → P (decided m b i s)
-  unfolding decided
+  unfolding decided pay
   reached-pays P runs-so idles-so goes-on = both-ways P _ _ _ runs-so (both-ways P _ _ _ idles-so goes-on)
 
   pub marked-ends : getD m i false ≡ true → chosen (decided m b i s .answer) ≡ true

@@ -2,7 +2,8 @@
 use Prim.Native.Nat.{ℕ, _<_}
 use mathlib.Core.Path.{_≡_}
 use mathlib.Core.List.{List}
-use mathlib.Core.Bool.{Bool}
+use mathlib.Core.Bool.{Bool, true, false}
+use lib.ListN.{getD}
 use Rattle.table.specs.Mark.{marks-of}
 use Rattle.table.specs.declared.Table.{Table}
 use Rattle.state.specs.State.{progress}
@@ -10,9 +11,9 @@ use Rattle.state.specs.Release.{release}
 use Rattle.state.specs.Methods.{tick}
 use Rattle.state.specs.declared.State.{State}
 use Rattle.order.specs.Order.{order}
-use Rattle.walk.specs.Walk.{walked, walk}
+use Rattle.walk.specs.Walk.{runs, walked, walk}
 use Rattle.walk.specs.declared.Answer.{Answer}
-use Rattle.walk.specs.declared.Answer.the-variants.{Ran, IdleFor}
+use Rattle.walk.specs.declared.Answer.the-variants.{Ran, IdleFor, Idle}
 use Rattle.walk.specs.declared.Walked.{Walked}
 
 -- 5. The clock goes up by one.
@@ -36,3 +37,9 @@ pub record Rested (a : Answer) (s : State) : Type 0 where
 pub data Names (i : ℕ) : Answer → Type 0 where
   ran : Names i (Ran i)
   idles : Names i (IdleFor i)
+
+-- What an answer says of the thread that it names: it runs, or it is marked and does not.
+abbrev pub Says : List Bool → List ℕ → State → Answer → Type 0
+Says m bs s (Ran i) = runs (getD bs i 0) (progress s i) ≡ true
+Says m bs s (IdleFor i) = (getD m i false ≡ true) × (runs (getD bs i 0) (progress s i) ≡ false)
+Says m bs s Idle = Unit {0}
