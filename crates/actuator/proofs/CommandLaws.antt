@@ -20,7 +20,7 @@ use Rattle.scheduler.proofs.RefusalLaws.{number-exactly, taken-steps}
 use Rattle.actuator.specs.Motion.{drawn}
 use Rattle.actuator.specs.Drive.{Brought, Drove, ran, commanded, moved-to, driven}
 use Rattle.actuator.specs.declared.Actuator.{Actuator}
-use Rattle.actuator.proofs.DriveLaws.{answer-back}
+use Rattle.scheduler.proofs.UniqueLaws.{answer-back}
 use Rattle.actuator.proofs.NumberLaws.{drive-refused-keeps}
 use Rattle.actuator.proofs.MoveLaws.{drive-steps}
 

@@ -19,18 +19,12 @@ use Rattle.scheduler.specs.Taken.{answer-of}
 use Rattle.state.specs.declared.State.{State}
 use Rattle.walk.specs.declared.Answer.{Answer}
 use Rattle.walk.specs.declared.Answer.the-variants.{Ran, IdleFor, Idle}
+use Rattle.scheduler.proofs.UniqueLaws.{answer-back}
 use Rattle.scheduler.proofs.RefusalLaws.{number-exactly, taken-steps}
 use Rattle.actuator.specs.Motion.{in-range, ranged, drawn}
 use Rattle.actuator.specs.Drive.{Brought, Drove, ran, commanded, moved-to, refused-drive, follows, driven}
 use Rattle.actuator.specs.declared.Actuator.{Actuator}
 use Rattle.actuator.proofs.LevelLaws.{drawn-in, ranged-command}
-
--- An answer is known from its values.
-pub answer-back : (n : Answer) → answer-of (values n) ≡ n
-unfolding answer-of pick
-answer-back (Ran i) = refl
-answer-back (IdleFor i) = refl
-answer-back Idle = refl
 
 -- The command that stands is in the range.
 pub commanded-in : (a : Actuator) → ranged a ≡ true → (n : Answer) (x : ℤ) → in-range (commanded a n x) ≡ true

@@ -27,6 +27,7 @@ use Rattle.walk.specs.declared.Answer.{Answer}
 use Rattle.walk.specs.declared.Answer.the-variants.{Ran, IdleFor, Idle}
 use Rattle.scheduler.proofs.RefusalLaws.{refused-keeps}
 use Rattle.isolation.proofs.Isolation.{demand-3}
+use Rattle.sight.proofs.NumberLaws.{view-number}
 use Rattle.actuator.specs.Motion.{ranged, drawn}
 use Rattle.actuator.specs.Drive.{Brought, Drove, ran, commanded, moved-to, follows, driven}
 use Rattle.actuator.specs.Runs.{drives, actuators, positions, Same-runs, step-part, Isolated-drives, Same-positions}
@@ -40,12 +41,6 @@ names i (j ∷ vs) = eqb i j
 
 module _ (t : Table) (ok : legal t ≡ true) (d : ℕ) (dd : d < t .domains) where
   -- What d is told of a call keeps its number, and names a thread that it may see exactly if that thread ran.
-  view-number : (n : Answer) → view t d n .number ≡ 0
-  unfolding view
-  view-number (Ran i) = both-ways (λ (x : Told). x .number ≡ 0) (visible t d i) _ _ refl refl
-  view-number (IdleFor i) = refl
-  view-number Idle = refl
-
   shows-view : (n : Answer) → showing t d n ≡ view t d n
   unfolding showing pick
   shows-view n = rw (ok, lt-ltb d (t .domains) dd)
@@ -54,7 +49,7 @@ module _ (t : Table) (ok : legal t ≡ true) (d : ℕ) (dd : d < t .domains) whe
   unfolding telling
   told-number x =
       either (λ (y : Told). y .number ≡ x .number) (eqb (x .number) 0)
-      (λ e. ap (λ (y : Told). y .number) (shows-view (answer-of (x .values))) ∙ view-number (answer-of (x .values)) ∙ sym (eqb-true (x .number) 0 e))
+      (λ e. ap (λ (y : Told). y .number) (shows-view (answer-of (x .values))) ∙ view-number t d (answer-of (x .values)) ∙ sym (eqb-true (x .number) 0 e))
       (λ e. refl)
 
   view-names : (i : ℕ) → visible t d i ≡ true → (n : Answer) → names i (view t d n .values) ≡ ran i n

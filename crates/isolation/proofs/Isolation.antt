@@ -25,10 +25,10 @@ use Rattle.order.specs.Order.{order, Below, Falling}
 use Rattle.order.proofs.OrderLaws.{order-falls, order-below}
 use Rattle.walk.specs.Step.{ticked, advance, step}
 use Rattle.walk.specs.declared.Answer.{Answer}
-use Rattle.walk.specs.declared.Answer.the-variants.{Ran, IdleFor, Idle}
 use Rattle.scheduler.specs.Taken.{Taken, values, answer-of, told, took, refused-step, taken}
 use Rattle.scheduler.specs.Calls.{calls}
 use Rattle.scheduler.specs.declared.Outcome.the-variants.{Chose, Refused}
+use Rattle.scheduler.proofs.UniqueLaws.{answer-back}
 use Rattle.scheduler.proofs.CallLaws.{call-by, call-fits}
 use Rattle.sight.specs.Shown.{view, showing, showing-state, seen-threads, threads-shown}
 use Rattle.sight.proofs.SightLaws.{seen-same}
@@ -36,17 +36,10 @@ use Rattle.isolation.specs.Isolated.{telling, shown-of, Same-step, Same-
 use Rattle.isolation.proofs.Alike.{Alike, alike-refl, alike-release}
 use Rattle.isolation.proofs.Lockstep.{Agree, Marks, lockstep}
 
--- An answer is known from its values.
-answer-of-values : (a : Answer) → answer-of (values a) ≡ a
-unfolding answer-of pick
-answer-of-values (Ran i) = refl
-answer-of-values (IdleFor i) = refl
-answer-of-values Idle = refl
-
 -- `telling` says what the operation `shown` tells of the answer, or the number of the refusal.
 pub telling-chosen : (t : Table) (d : ℕ) (a : Answer) → telling t d (told (Chose a)) ≡ showing t d a
 unfolding telling pick
-telling-chosen t d a = rw (answer-of-values a)
+telling-chosen t d a = rw (answer-back a)
 
 pub telling-refused : (t : Table) (d why : ℕ) → why ≢ 0 → telling t d (told (Refused why)) ≡ refused why
 unfolding telling pick

@@ -7,8 +7,9 @@ use Rattle.basis.specs.Tests.{pick}
 use Rattle.basis.proofs.BackLaws.{undone}
 use Rattle.table.specs.declared.Table.{Table}
 use Rattle.state.specs.declared.State.{State}
+use Rattle.walk.specs.declared.Answer.{Answer}
 use Rattle.walk.specs.declared.Answer.the-variants.{Ran, IdleFor, Idle}
-use Rattle.scheduler.specs.Taken.{Taken, told, taken, taken-of}
+use Rattle.scheduler.specs.Taken.{Taken, values, answer-of, told, taken, taken-of}
 use Rattle.scheduler.specs.declared.Outcome.{Outcome}
 use Rattle.scheduler.specs.declared.Outcome.the-variants.{Chose, Refused}
 use Rattle.scheduler.specs.declared.Stepped.{Stepped}
@@ -35,3 +36,10 @@ step-unique t bs s r q e f =
     let o : r .outcome ≡ q .outcome = told-injective _ _ (ap (λ (x : Taken). x .told) g) in
     let n : r .state ≡ q .state = ap (λ (x : Taken). x .state) g in
     λ k. record { outcome = o k; state = n k }
+
+-- An answer is known from its values.
+pub answer-back : (a : Answer) → answer-of (values a) ≡ a
+unfolding answer-of pick
+answer-back (Ran i) = refl
+answer-back (IdleFor i) = refl
+answer-back Idle = refl

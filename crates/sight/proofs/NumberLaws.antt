@@ -22,7 +22,7 @@ use Rattle.sight.proofs.SightLaws.{seen-run, unseen-gap}
 use Rattle.sight.specs.Numbered.{View-numbered, not-legal, no-domain, shows, State-numbered, illegal, misfit, lacks-domain, shows-state}
 
 -- A thread or a gap is no refusal.
-view-number : (t : Table) (d : ℕ) (a : Answer) → view t d a .number ≡ 0
+pub view-number : (t : Table) (d : ℕ) (a : Answer) → view t d a .number ≡ 0
 unfolding view
 view-number t d (Ran i) =
     let number : Told → ℕ = λ w. w .number in
