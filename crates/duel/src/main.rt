@@ -8,14 +8,8 @@ use dice::part;
 use dice::seldom;
 use scheduler::State;
 use table::Table;
-
-// What came up, counted by its kind.
-pub type Tally = [u32; 64];
-
-fn count(tally: &mut Tally, kind: u32) {
-    let k = kind as usize % 64;
-    tally[k] = std::num::wrapping_add_u32(tally[k], 1);
-}
+use tally::Tally;
+use tally::count;
 
 // A run of some steps.
 fn run(tally: &mut Tally, seed: u64, t: Table, from: State, steps: u32) {

@@ -6,7 +6,6 @@ use crate::report::NOT_LEGAL;
 use crate::report::RAN;
 use crate::report::REFUSED;
 use crate::report::UNMARKED;
-use crate::report::WRONG;
 use dice::below;
 use dice::below8;
 use same::outcome_number;
@@ -17,6 +16,7 @@ use scheduler::State;
 use scheduler::Stepped;
 use table::Marking;
 use table::Table;
+use tally::WRONG;
 
 // What a step gave, by its kind, and the state after it.
 pub struct Played {

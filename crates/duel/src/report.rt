@@ -1,5 +1,7 @@
 // The kinds that are counted, and what is printed of them.
-use crate::Tally;
+use tally::Tally;
+use tally::WRONG;
+use tally::line;
 
 pub const TABLES: u32 = 0;
 
@@ -30,17 +32,6 @@ pub const SHOWN: u32 = 44;
 
 pub const UNSHOWN: u32 = 45;
 
-pub const WRONG: u32 = 63;
-
-fn wide(n: u32) -> u64 {
-    n as u64
-}
-
-fn line(tally: &Tally, kind: u32, text: &[u8]) {
-    io::print_decimal(1, wide(tally[kind as usize % 64]));
-    io::write_all(1, text);
-}
-
 fn steps(tally: &Tally) {
     line(tally, TABLES, b" legal tables\n");
     line(tally, RAN, b" steps of a thread\n");
@@ -55,7 +46,7 @@ fn steps(tally: &Tally) {
 fn damage(tally: &Tally) {
     line(tally, 20, b" tables with a wrong number of domains\n");
     line(tally, 21, b" tables with a wrong number of threads\n");
-    line(tally, 22, b" tables with a bit of a row turned\n");
+    line(tally, 22, b" tables with a bit or two of a row turned\n");
     line(tally, 23, b" tables with an unused row not zero\n");
     line(tally, 24, b" tables with a priority twice\n");
     line(tally, 25, b" tables with a field just past its range\n");

@@ -3,7 +3,6 @@ use crate::report::GAP;
 use crate::report::SEEN;
 use crate::report::SHOWN;
 use crate::report::UNSHOWN;
-use crate::report::WRONG;
 use dice::below8;
 use dice::seldom;
 use same::same_state;
@@ -12,6 +11,7 @@ use scheduler::Showing;
 use scheduler::State;
 use scheduler::View;
 use table::Table;
+use tally::WRONG;
 
 // 1,000 and the number of a refusal.
 fn view_number(v: View) -> u32 {

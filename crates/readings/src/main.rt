@@ -9,9 +9,12 @@ use dice::below32;
 use dice::part;
 use dice::seldom;
 use table::Table;
+use tally::Tally;
+use tally::WRONG;
+use tally::count;
+use tally::line;
 
-// What came up, counted by its kind: a reader's refusal by its number, a writer's from 20 on, the host's from 30 on.
-type Tally = [u32; 64];
+// A reader's refusal is counted by its number, a writer's answer from 20 on, the host's from 30 on.
 
 pub const WRITTEN: u32 = 20;
 
@@ -32,13 +35,6 @@ pub const NO_THREAD: u32 = 34;
 pub const NOT_READ: u32 = 35;
 
 pub const NOT_ASKED: u32 = 36;
-
-pub const WRONG: u32 = 63;
-
-fn count(tally: &mut Tally, kind: u32) {
-    let k = kind as usize % 64;
-    tally[k] = std::num::wrapping_add_u32(tally[k], 1);
-}
 
 // Mostly a thread of the table; seldom one that it lacks, also such as would be one in 8 bits.
 fn some_thread(seed: u64, t: Table) -> u32 {
@@ -77,20 +73,11 @@ fn play_table(tally: &mut Tally, seed: u64) {
     }
 }
 
-fn wide(n: u32) -> u64 {
-    n as u64
-}
-
-fn line(tally: &Tally, kind: u32, text: &[u8]) {
-    io::print_decimal(1, wide(tally[kind as usize % 64]));
-    io::write_all(1, text);
-}
-
 fn report_reads(tally: &Tally) {
     line(tally, 0, b" tables read\n");
     for why in 1..11u32 {
         line(tally, why, b" refused with ");
-        io::print_decimal(1, wide(why));
+        io::print_decimal(1, why as u64);
         io::write_all(1, b"\n");
     }
 }
@@ -110,7 +97,7 @@ fn report(tally: &Tally) {
 
 fn main() {
     let mut tally = [0u32; 64];
-    for k in 0..1000u32 {
+    for k in 0..3000u32 {
         play_table(&mut tally, part(3, k));
     }
     report_reads(&tally);

@@ -2,11 +2,11 @@
 use crate::NO_ROOM;
 use crate::NOT_LEGAL;
 use crate::WRITTEN;
-use crate::WRONG;
 use dice::below;
 use std::num::wrapping_add_usize;
 use std::num::wrapping_sub_usize;
 use table::Table;
+use tally::WRONG;
 use writer::Writing;
 
 // What stands in a buffer before.
