@@ -1,8 +1,8 @@
 // What a domain is shown, by both sides.
-use crate::report::GAP;
-use crate::report::SEEN;
-use crate::report::SHOWN;
-use crate::report::UNSHOWN;
+use crate::GAP;
+use crate::SEEN;
+use crate::SHOWN;
+use crate::UNSHOWN;
 use dice::below8;
 use dice::seldom;
 use same::same_state;

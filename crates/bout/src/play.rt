@@ -1,11 +1,11 @@
 // Both sides play, and the kind of what they say is told where they agree.
-use crate::report::IDLE;
-use crate::report::IDLE_FOR;
-use crate::report::MARKED;
-use crate::report::NOT_LEGAL;
-use crate::report::RAN;
-use crate::report::REFUSED;
-use crate::report::UNMARKED;
+use crate::IDLE;
+use crate::IDLE_FOR;
+use crate::MARKED;
+use crate::NOT_LEGAL;
+use crate::RAN;
+use crate::REFUSED;
+use crate::UNMARKED;
 use dice::below;
 use dice::below8;
 use same::outcome_number;
