@@ -1,28 +1,20 @@
 // Plays random tables and states, legal and damaged, with both schedulers, the proved one and crate rival. Prints how many of
 // each kind were played, and last how often the two disagreed.
-mod play;
 mod report;
-mod views;
 
 use dice::part;
 use dice::seldom;
 use scheduler::State;
 use table::Table;
-
-// What came up, counted by its kind.
-pub type Tally = [u32; 64];
-
-fn count(tally: &mut Tally, kind: u32) {
-    let k = kind as usize % 64;
-    tally[k] = std::num::wrapping_add_u32(tally[k], 1);
-}
+use tally::Tally;
+use tally::count;
 
 // A run of some steps.
 fn run(tally: &mut Tally, seed: u64, t: Table, from: State, steps: u32) {
     let mut s = from;
     for k in 0..steps {
         let bytes = deal::bytes(part(seed, k));
-        let r = play::step(t, s, &bytes, t.count);
+        let r = bout::step(t, s, &bytes, t.count);
         count(tally, r.kind);
         s = r.state;
     }
@@ -32,12 +24,12 @@ fn run(tally: &mut Tally, seed: u64, t: Table, from: State, steps: u32) {
 // shown of it.
 fn try_out(tally: &mut Tally, seed: u64, t: Table, s: State) {
     let bytes = deal::bytes(seed);
-    let n = play::some_length(seed, t.count);
-    let r = play::step(t, s, &bytes, n);
+    let n = bout::some_length(seed, t.count);
+    let r = bout::step(t, s, &bytes, n);
     count(tally, r.kind);
-    count(tally, play::marks(t));
-    count(tally, views::shown(part(seed, 1), t));
-    count(tally, views::shown_state(part(seed, 2), t, r.state));
+    count(tally, bout::marks(t));
+    count(tally, bout::shown(part(seed, 1), t));
+    count(tally, bout::shown_state(part(seed, 2), t, r.state));
 }
 
 // A table with each kind of damage, and a state that fits the table as it was.

@@ -1,61 +1,30 @@
 // The kinds that are counted, and what is printed of them.
-use crate::Tally;
+use tally::Tally;
+use tally::WRONG;
+use tally::line;
 
 pub const TABLES: u32 = 0;
 
-pub const RAN: u32 = 1;
-
-pub const IDLE_FOR: u32 = 2;
-
-pub const IDLE: u32 = 3;
-
-// A step refused with a number is counted so many places on from here; damage by its kind likewise.
-pub const REFUSED: u32 = 0;
-
+// Damage is counted by its kind from here on.
 pub const DAMAGED_TABLE: u32 = 20;
 
 pub const DAMAGED_STATE: u32 = 30;
 
-pub const MARKED: u32 = 40;
-
-pub const UNMARKED: u32 = 46;
-
-pub const NOT_LEGAL: u32 = 41;
-
-pub const SEEN: u32 = 42;
-
-pub const GAP: u32 = 43;
-
-pub const SHOWN: u32 = 44;
-
-pub const UNSHOWN: u32 = 45;
-
-pub const WRONG: u32 = 63;
-
-fn wide(n: u32) -> u64 {
-    n as u64
-}
-
-fn line(tally: &Tally, kind: u32, text: &[u8]) {
-    io::print_decimal(1, wide(tally[kind as usize % 64]));
-    io::write_all(1, text);
-}
-
 fn steps(tally: &Tally) {
     line(tally, TABLES, b" legal tables\n");
-    line(tally, RAN, b" steps of a thread\n");
-    line(tally, IDLE_FOR, b" steps idle for a thread\n");
-    line(tally, IDLE, b" steps idle\n");
-    line(tally, REFUSED + 11, b" steps refused with 11\n");
-    line(tally, REFUSED + 12, b" steps refused with 12\n");
-    line(tally, REFUSED + 13, b" steps refused with 13\n");
-    line(tally, REFUSED + 14, b" steps refused with 14\n");
+    line(tally, bout::RAN, b" steps of a thread\n");
+    line(tally, bout::IDLE_FOR, b" steps idle for a thread\n");
+    line(tally, bout::IDLE, b" steps idle\n");
+    line(tally, bout::REFUSED + 11, b" steps refused with 11\n");
+    line(tally, bout::REFUSED + 12, b" steps refused with 12\n");
+    line(tally, bout::REFUSED + 13, b" steps refused with 13\n");
+    line(tally, bout::REFUSED + 14, b" steps refused with 14\n");
 }
 
 fn damage(tally: &Tally) {
     line(tally, 20, b" tables with a wrong number of domains\n");
     line(tally, 21, b" tables with a wrong number of threads\n");
-    line(tally, 22, b" tables with a bit of a row turned\n");
+    line(tally, 22, b" tables with a bit or two of a row turned\n");
     line(tally, 23, b" tables with an unused row not zero\n");
     line(tally, 24, b" tables with a priority twice\n");
     line(tally, 25, b" tables with a field just past its range\n");
@@ -71,12 +40,12 @@ fn damage(tally: &Tally) {
 pub fn report(tally: &Tally) {
     steps(tally);
     damage(tally);
-    line(tally, MARKED, b" legal tables with a mark\n");
-    line(tally, UNMARKED, b" legal tables without one\n");
-    line(tally, NOT_LEGAL, b" marks refused\n");
-    line(tally, SEEN, b" threads shown to a domain\n");
-    line(tally, GAP, b" gaps shown to a domain\n");
-    line(tally, SHOWN, b" states shown to a domain\n");
-    line(tally, UNSHOWN, b" views refused\n");
+    line(tally, bout::MARKED, b" legal tables with a mark\n");
+    line(tally, bout::UNMARKED, b" legal tables without one\n");
+    line(tally, bout::NOT_LEGAL, b" marks refused\n");
+    line(tally, bout::SEEN, b" threads shown to a domain\n");
+    line(tally, bout::GAP, b" gaps shown to a domain\n");
+    line(tally, bout::SHOWN, b" states shown to a domain\n");
+    line(tally, bout::UNSHOWN, b" views refused\n");
     line(tally, WRONG, b" disagreements\n");
 }

@@ -1,44 +1,14 @@
 // The bytes of random tables, legal and damaged, read and written by the proved reader and writer, by the host's three calls, and
 // by crate rival_bytes. Prints how often each number came up, and last how often the two sides disagreed.
-mod host_calls;
-mod read;
-mod write;
-
 use dice::below;
 use dice::below32;
 use dice::part;
 use dice::seldom;
 use table::Table;
-
-// What came up, counted by its kind: a reader's refusal by its number, a writer's from 20 on, the host's from 30 on.
-type Tally = [u32; 64];
-
-pub const WRITTEN: u32 = 20;
-
-pub const NOT_LEGAL: u32 = 21;
-
-pub const NO_ROOM: u32 = 22;
-
-pub const UNMARKED: u32 = 30;
-
-pub const MARKED: u32 = 31;
-
-pub const BOUND: u32 = 32;
-
-pub const NO_BOUND: u32 = 33;
-
-pub const NO_THREAD: u32 = 34;
-
-pub const NOT_READ: u32 = 35;
-
-pub const NOT_ASKED: u32 = 36;
-
-pub const WRONG: u32 = 63;
-
-fn count(tally: &mut Tally, kind: u32) {
-    let k = kind as usize % 64;
-    tally[k] = std::num::wrapping_add_u32(tally[k], 1);
-}
+use tally::Tally;
+use tally::WRONG;
+use tally::count;
+use tally::line;
 
 // Mostly a thread of the table; seldom one that it lacks, also such as would be one in 8 bits.
 fn some_thread(seed: u64, t: Table) -> u32 {
@@ -56,7 +26,7 @@ fn read_one(tally: &mut Tally, seed: u64, t: Table, kind: u16) {
     let spoiled = spoil::bytes(seed, page, kind);
     let bytes = spoiled.bytes;
     let i = some_thread(seed, t);
-    let c = read::calls_on(&bytes, spoiled.len, i);
+    let c = bout_bytes::calls_on(&bytes, spoiled.len, i);
     count(tally, c.read);
     count(tally, c.mark);
     count(tally, c.bound);
@@ -64,7 +34,7 @@ fn read_one(tally: &mut Tally, seed: u64, t: Table, kind: u16) {
 
 fn play_table(tally: &mut Tally, seed: u64) {
     let t = deal::table(seed);
-    count(tally, write::write(part(seed, 1), t));
+    count(tally, bout_bytes::written(part(seed, 1), t));
     for kind in 0..10u16 {
         let own = part(seed, kind as u32 + 10);
         let bad = spoil::table(own, t, below32(own, 4, 8));
@@ -72,45 +42,48 @@ fn play_table(tally: &mut Tally, seed: u64) {
         if seldom(own, 5, 2) {
             read_one(tally, own, bad, 0);
         } else {
-            count(tally, write::write(own, bad));
+            count(tally, bout_bytes::written(own, bad));
         }
     }
-}
-
-fn wide(n: u32) -> u64 {
-    n as u64
-}
-
-fn line(tally: &Tally, kind: u32, text: &[u8]) {
-    io::print_decimal(1, wide(tally[kind as usize % 64]));
-    io::write_all(1, text);
 }
 
 fn report_reads(tally: &Tally) {
     line(tally, 0, b" tables read\n");
     for why in 1..11u32 {
         line(tally, why, b" refused with ");
-        io::print_decimal(1, wide(why));
+        io::print_decimal(1, why as u64);
         io::write_all(1, b"\n");
     }
 }
 
 fn report(tally: &Tally) {
-    line(tally, WRITTEN, b" tables written\n");
-    line(tally, NOT_LEGAL, b" refused with 11\n");
-    line(tally, NO_ROOM, b" refused with 16\n");
-    line(tally, UNMARKED, b" threads not marked for the host\n");
-    line(tally, MARKED, b" threads marked\n");
-    line(tally, BOUND, b" bounds\n");
-    line(tally, NO_BOUND, b" threads without a bound\n");
-    line(tally, NO_THREAD, b" threads that the table lacks\n");
-    line(tally, NOT_READ, b" refused with the reader's number\n");
+    line(tally, bout_bytes::WRITTEN, b" tables written\n");
+    line(tally, bout_bytes::NOT_LEGAL, b" refused with 11\n");
+    line(tally, bout_bytes::NO_ROOM, b" refused with 16\n");
+    line(
+        tally,
+        bout_bytes::UNMARKED,
+        b" threads not marked for the host\n",
+    );
+    line(tally, bout_bytes::MARKED, b" threads marked\n");
+    line(tally, bout_bytes::BOUND, b" bounds\n");
+    line(tally, bout_bytes::NO_BOUND, b" threads without a bound\n");
+    line(
+        tally,
+        bout_bytes::NO_THREAD,
+        b" threads that the table lacks\n",
+    );
+    line(
+        tally,
+        bout_bytes::NOT_READ,
+        b" refused with the reader's number\n",
+    );
     line(tally, WRONG, b" disagreements\n");
 }
 
 fn main() {
     let mut tally = [0u32; 64];
-    for k in 0..1000u32 {
+    for k in 0..3000u32 {
         play_table(&mut tally, part(3, k));
     }
     report_reads(&tally);

@@ -27,10 +27,20 @@ fn count(seed: u64, n: u8) -> u8 {
     }
 }
 
-// A bit turned of row i: its own, or any other.
-fn row(seed: u64, row: u16, i: u8) -> u16 {
-    let j = if seldom(seed, 3, 4) { i } else { any8(seed, 4) };
-    row ^ 1u16 << j % 16
+// A bit or two turned of row i: its own, or others of so many. With two turned several pairs may be missing.
+fn row(seed: u64, row: u16, i: u8, bits: u8) -> u16 {
+    let j = if seldom(seed, 3, 4) {
+        i
+    } else {
+        below8(seed, 4, bits)
+    };
+    let k = below8(seed, 15, bits);
+    let second = if seldom(seed, 16, 2) {
+        0
+    } else {
+        1u16 << k % 16
+    };
+    row ^ 1u16 << j % 16 ^ second
 }
 
 // A field just past its range.
@@ -83,11 +93,12 @@ fn with_thread(t: Table, i: u8, f: Thread) -> Table {
     u
 }
 
-// A table of kind: 0 a wrong number of domains, 1 of threads, 2 a bit of a row turned, 3 an unused row not zero, 4 a priority
+// A table of kind: 0 a wrong number of domains, 1 of threads, 2 a bit or two of a row turned, 3 an unused row not zero, 4 a priority
 // twice, 5 a field just past its range, 6 a field of any value, 7 an unused place not zero.
 pub fn table(seed: u64, t: Table, kind: u32) -> Table {
     let mut u = t;
     let d = below8(seed, 8, t.domains);
+    let bits = if seldom(seed, 17, 4) { 16 } else { t.domains };
     let e = unused(seed, t.domains, 16);
     let i = below8(seed, 9, t.count);
     let j = below8(seed, 10, t.count);
@@ -99,8 +110,8 @@ pub fn table(seed: u64, t: Table, kind: u32) -> Table {
     match kind {
         0 => u.domains = count(seed, t.domains),
         1 => u.count = count(seed, t.count),
-        2 => u = with_row(t, d, row(seed, t.rows[d as usize % 16], d)),
-        3 => u = with_row(t, e, row(seed, 0, e)),
+        2 => u = with_row(t, d, row(seed, t.rows[d as usize % 16], d, bits)),
+        3 => u = with_row(t, e, row(seed, 0, e, 16)),
         4 => u = with_thread(t, j, g),
         5 => u = with_thread(t, i, past(seed, f, t.domains)),
         6 => u = with_thread(t, i, changed(seed, f, any(seed, 11))),

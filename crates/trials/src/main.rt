@@ -14,7 +14,7 @@ fn play(y: Tally, seed: u64) -> Tally {
     if seldom(seed, 1, 8) {
         return count::table(y, spoil::table(part(seed, 3), t, dice::below32(seed, 2, 8)));
     }
-    if rival_bounds::is_long(t) & !seldom(seed, 4, 12) {
+    if rival_bounds::is_long(t) & !seldom(seed, 4, 24) {
         return y;
     }
     count::table(y, t)

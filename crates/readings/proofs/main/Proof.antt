@@ -1,4 +1,4 @@
--- `readings::main` is safe and ends: k counts up to 1000.
+-- `readings::main` is safe and ends: k counts up to 3000.
 use Prim.Native.Nat.{_-_}
 use borrow.Author.Needs.{needs}
 use Rattle.readings.proofs.main.Statement.{statement}
@@ -8,7 +8,7 @@ abbrev Inv-loop : tie.InvT-loop
 Inv-loop tally₀ k₀ tally k = Unit {0}
 
 abbrev μ-loop : tie.MeasureT-loop
-μ-loop tally₀ k₀ tally k = 1000 - k
+μ-loop tally₀ k₀ tally k = 3000 - k
 
 loop-holds : tie.Need-loop-holds Inv-loop μ-loop
 loop-holds c = search needs

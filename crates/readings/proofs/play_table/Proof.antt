@@ -17,8 +17,8 @@ table-requires c κs = search needs
 part-requires : tie.Need-part-requires Inv-loop μ-loop
 part-requires c κs = search needs
 
-write-requires : tie.Need-write-requires Inv-loop μ-loop
-write-requires c κs = search needs
+written-requires : tie.Need-written-requires Inv-loop μ-loop
+written-requires c κs = search needs
 
 count-requires : tie.Need-count-requires Inv-loop μ-loop
 count-requires c κs = search needs
@@ -50,8 +50,8 @@ seldom-requires c κs = search needs
 read-one-requires-2 : tie.Need-read-one-requires-2 Inv-loop μ-loop
 read-one-requires-2 c κs = search needs
 
-write-requires-2 : tie.Need-write-requires-2 Inv-loop μ-loop
-write-requires-2 c κs = search needs
+written-requires-2 : tie.Need-written-requires-2 Inv-loop μ-loop
+written-requires-2 c κs = search needs
 
 count-requires-2 : tie.Need-count-requires-2 Inv-loop μ-loop
 count-requires-2 c κs = search needs
@@ -76,7 +76,7 @@ play-table-spec =
     μ-loop
     table-requires
     part-requires
-    write-requires
+    written-requires
     count-requires
     loop-holds
     cast-part
@@ -87,7 +87,7 @@ play-table-spec =
     read-one-requires
     seldom-requires
     read-one-requires-2
-    write-requires-2
+    written-requires-2
     count-requires-2
     add-kind
     loop-less

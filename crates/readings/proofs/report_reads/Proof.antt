@@ -25,8 +25,8 @@ slice-aggregate-line-2 c = search needs
 line-requires-2 : tie.Need-line-requires-2 Inv-loop μ-loop
 line-requires-2 c κs = search needs
 
-wide-requires : tie.Need-wide-requires Inv-loop μ-loop
-wide-requires c κs = search needs
+cast-print-decimal : tie.Need-cast-print-decimal Inv-loop μ-loop
+cast-print-decimal c = search needs
 
 print-decimal-requires : tie.Need-print-decimal-requires Inv-loop μ-loop
 print-decimal-requires c κs = search needs
@@ -60,7 +60,7 @@ report-reads-spec =
     loop-holds
     slice-aggregate-line-2
     line-requires-2
-    wide-requires
+    cast-print-decimal
     print-decimal-requires
     slice-aggregate-write-all
     write-all-requires

@@ -1,8 +1,8 @@
--- `duel::play::compared` is safe and ends: i counts up to 32.
+-- `bout::play::compared` is safe and ends: i counts up to 32.
 use Prim.Native.Nat.{_-_}
 use borrow.Author.Needs.{needs}
-use Rattle.duel.proofs.play.compared.Statement.{statement}
-use Rattle.duel.proofs.play.compared.Tie as tie
+use Rattle.bout.proofs.play.compared.Statement.{statement}
+use Rattle.bout.proofs.play.compared.Tie as tie
 
 abbrev Inv-loop : tie.InvT-loop
 Inv-loop a b sum₀ i₀ sum i = Unit {0}

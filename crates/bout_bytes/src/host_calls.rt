@@ -6,8 +6,8 @@ use crate::NO_THREAD;
 use crate::NOT_ASKED;
 use crate::NOT_READ;
 use crate::UNMARKED;
-use crate::WRONG;
 use table::Table;
+use tally::WRONG;
 
 // The number that both calls refuse with, or 0.
 fn refusal(r: rival_bytes::Reading, thread: u32) -> u32 {

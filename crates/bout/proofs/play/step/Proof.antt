@@ -1,10 +1,10 @@
--- `duel::play::step` is safe: n bytes are lent where there are n.
+-- `bout::play::step` is safe: n bytes are lent where there are n.
 use mathlib.Core.Path.{sym}
 use native.Mathlib.Omega.{arith}
 use lib.Seq.{length-take-le}
 use borrow.Author.Needs.{needs}
-use Rattle.duel.proofs.play.step.Statement.{statement}
-use Rattle.duel.proofs.play.step.Tie as tie
+use Rattle.bout.proofs.play.step.Statement.{statement}
+use Rattle.bout.proofs.play.step.Tie as tie
 
 slice-aggregate-both : tie.Need-slice-aggregate-both
 slice-aggregate-both c = sym (length-take-le _ _ (omega arith))

@@ -2,11 +2,11 @@
 use crate::NO_ROOM;
 use crate::NOT_LEGAL;
 use crate::WRITTEN;
-use crate::WRONG;
 use dice::below;
 use std::num::wrapping_add_usize;
 use std::num::wrapping_sub_usize;
 use table::Table;
+use tally::WRONG;
 use writer::Writing;
 
 // What stands in a buffer before.
@@ -58,7 +58,7 @@ fn is_there(buf: [u8; 800], bytes: [u8; 800], from: usize, to: usize) -> bool {
 }
 
 // From the first places on, into as much room as is needed, a byte more or less, or none.
-pub fn write(seed: u64, t: Table) -> u32 {
+pub fn written(seed: u64, t: Table) -> u32 {
     let page = rival_bytes::write(t);
     let bytes = page.bytes;
     let at = below(seed, 31, 60) as usize;

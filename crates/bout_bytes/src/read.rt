@@ -1,10 +1,10 @@
 // Both readers on the same bytes, and the host's three calls.
-use crate::WRONG;
 use crate::host_calls::bound;
 use crate::host_calls::mark;
 use reader::Reading;
 use reader::Verdict;
 use same::same_table;
+use tally::WRONG;
 
 // The number, its place and the three domains.
 struct Told {

@@ -1,8 +1,8 @@
--- `readings::write::is_there` is safe and ends: i counts up to 800.
+-- `bout_bytes::write::is_there` is safe and ends: i counts up to 800.
 use Prim.Native.Nat.{_-_}
 use borrow.Author.Needs.{needs}
-use Rattle.readings.proofs.write.is_there.Statement.{statement}
-use Rattle.readings.proofs.write.is_there.Tie as tie
+use Rattle.bout_bytes.proofs.write.is_there.Statement.{statement}
+use Rattle.bout_bytes.proofs.write.is_there.Tie as tie
 
 abbrev Inv-loop : tie.InvT-loop
 Inv-loop from to buf bytes same₀ i₀ same i = Unit {0}

@@ -1,10 +1,10 @@
--- `readings::read::calls_on` is safe: n bytes are lent where there are n.
+-- `bout_bytes::read::calls_on` is safe: n bytes are lent where there are n.
 use mathlib.Core.Path.{sym}
 use native.Mathlib.Omega.{arith}
 use lib.Seq.{length-take-le}
 use borrow.Author.Needs.{needs}
-use Rattle.readings.proofs.read.calls_on.Statement.{statement}
-use Rattle.readings.proofs.read.calls_on.Tie as tie
+use Rattle.bout_bytes.proofs.read.calls_on.Statement.{statement}
+use Rattle.bout_bytes.proofs.read.calls_on.Tie as tie
 
 slice-aggregate-calls : tie.Need-slice-aggregate-calls
 slice-aggregate-calls c = sym (length-take-le _ _ (omega arith))

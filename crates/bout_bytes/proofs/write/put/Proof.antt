@@ -1,10 +1,10 @@
--- `readings::write::put` is safe: so many bytes are lent where there are so many.
+-- `bout_bytes::write::put` is safe: so many bytes are lent where there are so many.
 use mathlib.Core.Path.{sym}
 use native.Mathlib.Omega.{arith}
 use lib.Seq.{length-take-le}
 use borrow.Author.Needs.{needs}
-use Rattle.readings.proofs.write.put.Statement.{statement}
-use Rattle.readings.proofs.write.put.Tie as tie
+use Rattle.bout_bytes.proofs.write.put.Statement.{statement}
+use Rattle.bout_bytes.proofs.write.put.Tie as tie
 
 slice-relend-prefix-write : tie.Need-slice-relend-prefix-write
 slice-relend-prefix-write c = search needs

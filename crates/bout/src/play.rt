@@ -1,12 +1,11 @@
 // Both sides play, and the kind of what they say is told where they agree.
-use crate::report::IDLE;
-use crate::report::IDLE_FOR;
-use crate::report::MARKED;
-use crate::report::NOT_LEGAL;
-use crate::report::RAN;
-use crate::report::REFUSED;
-use crate::report::UNMARKED;
-use crate::report::WRONG;
+use crate::IDLE;
+use crate::IDLE_FOR;
+use crate::MARKED;
+use crate::NOT_LEGAL;
+use crate::RAN;
+use crate::REFUSED;
+use crate::UNMARKED;
 use dice::below;
 use dice::below8;
 use same::outcome_number;
@@ -17,6 +16,7 @@ use scheduler::State;
 use scheduler::Stepped;
 use table::Marking;
 use table::Table;
+use tally::WRONG;
 
 // What a step gave, by its kind, and the state after it.
 pub struct Played {

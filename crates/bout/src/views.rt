@@ -1,9 +1,8 @@
 // What a domain is shown, by both sides.
-use crate::report::GAP;
-use crate::report::SEEN;
-use crate::report::SHOWN;
-use crate::report::UNSHOWN;
-use crate::report::WRONG;
+use crate::GAP;
+use crate::SEEN;
+use crate::SHOWN;
+use crate::UNSHOWN;
 use dice::below8;
 use dice::seldom;
 use same::same_state;
@@ -12,6 +11,7 @@ use scheduler::State;
 use sight::Showing;
 use sight::View;
 use table::Table;
+use tally::WRONG;
 
 // 1,000 and the number of a refusal.
 fn view_number(v: View) -> u32 {

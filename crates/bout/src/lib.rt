@@ -1,0 +1,34 @@
+// Both schedulers, the proved one and crate rival, on one input: the kind of what they say where they agree, and WRONG where not.
+mod play;
+mod views;
+
+pub use play::Played;
+pub use play::marks;
+pub use play::some_length;
+pub use play::step;
+pub use views::shown;
+pub use views::shown_state;
+
+// The kinds of what came up.
+pub const RAN: u32 = 1;
+
+pub const IDLE_FOR: u32 = 2;
+
+pub const IDLE: u32 = 3;
+
+// A step refused with a number is counted so many places on from here.
+pub const REFUSED: u32 = 0;
+
+pub const MARKED: u32 = 40;
+
+pub const UNMARKED: u32 = 41;
+
+pub const NOT_LEGAL: u32 = 42;
+
+pub const SEEN: u32 = 43;
+
+pub const GAP: u32 = 44;
+
+pub const SHOWN: u32 = 45;
+
+pub const UNSHOWN: u32 = 46;
