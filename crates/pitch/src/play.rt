@@ -1,8 +1,6 @@
 // Random drives, some of them damaged, each compared with what the second actuator gives.
 use super::story::bench;
 use super::story::task;
-use super::text::number;
-use super::text::say;
 use actuator::Actuator;
 use actuator::Driven;
 use dice::below;
@@ -13,6 +11,10 @@ use rival_actuator::agrees;
 use same::outcome_number;
 use scheduler::State;
 use table::Table;
+use tally::Tally;
+use tally::WRONG;
+use tally::count;
+use tally::line;
 
 // A command: an end of its type, an end of the range, one beyond it, or some number near the range.
 fn command(seed: u64) -> i64 {
@@ -137,48 +139,24 @@ fn length(count: u8, harm: u16) -> usize {
     }
 }
 
-// 8: no such thread; 14 and 15 too.
-fn harmed_thread(thread: u8, harm: u16) -> u8 {
-    match harm {
-        8 | 14 | 15 => 200,
-        _ => thread,
-    }
-}
-
-// 9: a rate of 0; 16 too. 14 and 15: one too many.
-fn harmed_rate(rate: u32, harm: u16) -> u32 {
-    match harm {
-        9 | 16 => 0,
-        14 | 15 => 1001,
-        _ => rate,
-    }
-}
-
-// 10 and 11: one beyond an end.
-fn harmed_position(z: i32, harm: u16) -> i32 {
-    match harm {
-        10 => -5001,
-        11 => 95001,
-        _ => z,
-    }
-}
-
-// 12 and 13: one beyond an end, and an end of the type.
-fn harmed_command(z: i32, harm: u16) -> i32 {
-    match harm {
-        12 => 95001,
-        13 => -2147483648,
-        _ => z,
-    }
-}
-
+// 8: no such thread; 9: a rate of 0, 16 too; 10 to 13: a position or a command one beyond an end, or an end of the type; 14 and
+// 15: a thread and a rate.
 fn harmed_actuator(a: Actuator, harm: u16) -> Actuator {
-    Actuator {
-        position: harmed_position(a.position, harm),
-        command: harmed_command(a.command, harm),
-        rate: harmed_rate(a.rate, harm),
-        thread: harmed_thread(a.thread, harm),
+    let mut b = a;
+    match harm {
+        8 => b.thread = 200,
+        9 | 16 => b.rate = 0,
+        10 => b.position = -5001,
+        11 => b.position = 95001,
+        12 => b.command = 95001,
+        13 => b.command = -2147483648,
+        14 | 15 => {
+            b.thread = 200;
+            b.rate = 1001;
+        }
+        _ => {}
     }
+    b
 }
 
 // The byte of thread i: mostly run, else wait, finish or a strange one.
@@ -191,34 +169,23 @@ fn byte(seed: u64, i: u32) -> u8 {
     }
 }
 
-// How many drives moved, were refused with each number, took a command, and were not as expected.
-type Tally = [u32; 32];
-
+// A refused drive is counted by its number.
 const MOVED: u32 = 0;
 
 const HEARD: u32 = 30;
 
-const WRONG: u32 = 31;
-
-fn more(tally: Tally, kind: u32) -> Tally {
-    let mut next = tally;
-    let k = kind as usize % 32;
-    next[k] = std::num::wrapping_add_u32(tally[k], 1);
-    next
-}
-
 // By the number of the outcome, which is 1,000 and more where the drive was refused.
-fn counted(tally: Tally, number: u32, thread: u8, good: bool) -> Tally {
-    if !good {
-        return more(tally, WRONG);
-    }
-    if number >= 1000 {
-        return more(tally, std::num::wrapping_sub_u32(number, 1000));
-    }
+fn count_drive(tally: &mut Tally, number: u32, thread: u8, good: bool) {
     if number == thread as u32 {
-        return more(more(tally, MOVED), HEARD);
+        count(tally, HEARD);
     }
-    more(tally, MOVED)
+    if !good {
+        count(tally, WRONG);
+    } else if number < 1000 {
+        count(tally, MOVED);
+    } else {
+        count(tally, std::num::wrapping_sub_u32(number, 1000));
+    }
 }
 
 // A drive, and whether it agrees with the second actuator.
@@ -241,23 +208,22 @@ fn both_on(t: Table, s: State, a: Actuator, bytes: &[u8], n: usize, command: i64
     both(t, s, a, bytes, command)
 }
 
-// A run under way, and what was counted so far.
+// A run under way.
 struct Game {
-    tally: Tally,
     state: State,
     actuator: Actuator,
 }
 
 // One call. A damaged call is made beside the run, which goes on from where it was.
-fn round(t: Table, g: Game, seed: u64) -> Game {
-    let c = g.tally;
+fn round(tally: &mut Tally, t: Table, g: Game, seed: u64) -> Game {
     let s = g.state;
     let a = g.actuator;
     let h = harm(seed);
     let bytes = [byte(seed, 0), byte(seed, 1), byte(seed, 2), 1];
     let b = harmed_actuator(a, h);
+    let u = harmed_table(t, h);
     let d = both_on(
-        harmed_table(t, h),
+        u,
         harmed_state(s, h),
         b,
         &bytes,
@@ -266,67 +232,43 @@ fn round(t: Table, g: Game, seed: u64) -> Game {
     );
     let r = d.driven;
     let o = r.outcome;
-    let tally = counted(c, outcome_number(o), b.thread, d.good);
+    count_drive(tally, outcome_number(o), b.thread, d.good);
     if h != 0 {
-        return Game {
-            tally,
-            state: s,
-            actuator: a,
-        };
+        return g;
     }
     let state = r.state;
     let actuator = r.actuator;
-    Game {
-        tally,
-        state,
-        actuator,
-    }
+    Game { state, actuator }
 }
 
 // A run of 30 calls.
-fn play(tally: Tally, seed: u64) -> Tally {
+fn play(tally: &mut Tally, seed: u64) {
     let t = table(seed);
     let state = scheduler::fresh();
     let actuator = actuator::start(place(seed), rate(seed), thread(seed));
-    let mut g = Game {
-        tally,
-        state,
-        actuator,
-    };
+    let mut g = Game { state, actuator };
     for k in 0..30u32 {
-        g = round(t, g, part(seed, k));
+        g = round(tally, t, g, part(seed, k));
     }
-    g.tally
 }
 
-fn wide(n: u32) -> u64 {
-    n as u64
-}
-
-fn item(tally: Tally, kind: u32, name: &[u8]) {
-    say(name);
-    number(wide(tally[kind as usize % 32]));
-}
-
-fn report(tally: Tally) {
-    item(tally, MOVED, b"against a second actuator: moved ");
-    item(tally, HEARD, b", a command taken ");
-    item(tally, 11, b"\nrefused with 11: ");
-    item(tally, 12, b", 12: ");
-    item(tally, 13, b", 13: ");
-    item(tally, 14, b", 14: ");
-    item(tally, 15, b", 15: ");
-    item(tally, 20, b", 20: ");
-    item(tally, WRONG, b"\ndisagreements: ");
-    say(b"\n");
+fn report(tally: &Tally) {
+    line(tally, MOVED, b" drives moved, as a second actuator does\n");
+    line(tally, HEARD, b" took a command\n");
+    line(tally, 11, b" refused with 11\n");
+    line(tally, 12, b" refused with 12\n");
+    line(tally, 13, b" refused with 13\n");
+    line(tally, 14, b" refused with 14\n");
+    line(tally, 15, b" refused with 15\n");
+    line(tally, 20, b" refused with 20\n");
+    line(tally, WRONG, b" disagreements\n");
 }
 
 // 600 runs of 30 drives.
 pub fn compare() {
-    let mut tally = [0u32; 32];
+    let mut tally = [0u32; 64];
     for run in 0..600u32 {
-        let next = play(tally, part(4, run));
-        tally = next;
+        play(&mut tally, part(4, run));
     }
-    report(tally);
+    report(&tally);
 }

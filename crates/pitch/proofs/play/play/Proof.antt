@@ -5,10 +5,10 @@ use Rattle.pitch.proofs.play.play.Statement.{statement}
 use Rattle.pitch.proofs.play.play.Tie as tie
 
 abbrev Inv-loop : tie.InvT-loop
-Inv-loop seed t g₀ k₀ g k = Unit {0}
+Inv-loop tally₀ seed t g₀ k₀ tally g k = Unit {0}
 
 abbrev μ-loop : tie.MeasureT-loop
-μ-loop seed t g₀ k₀ g k = 30 - k
+μ-loop tally₀ seed t g₀ k₀ tally g k = 30 - k
 
 table-requires : tie.Need-table-requires Inv-loop μ-loop
 table-requires c κs = search needs
