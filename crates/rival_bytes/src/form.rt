@@ -5,7 +5,7 @@ use table::Table;
 use table::Thread;
 
 // The numbers of a thread.
-const FIELDS: usize = 7;
+use table::FIELDS;
 
 // Bytes, of which the first so many count; the others are zero.
 pub struct Page {
