@@ -1,4 +1,3 @@
 pub mod PlayLaws
 pub mod InputLaws
 pub mod ChunkLaws
-pub mod FrontLaws

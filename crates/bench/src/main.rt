@@ -95,8 +95,8 @@ fn judge(bytes: &[u8]) {
     }
 }
 
-// The first 1,024 bytes of a file have the verdict of the whole: 730 do, by `reading-front` (proofs/FrontLaws.antt), since no
-// more than 243 numbers of three bytes each are read, and then it only matters whether one more byte is there.
+// The first 1,024 bytes of a file have the verdict of the whole: 730 do, by `reading-front` of crate codec, since no more
+// than 243 numbers of three bytes each are read, and then it only matters whether one more byte is there.
 fn main() {
     let mut bytes = [0u8; 1024];
     let got = load(&mut bytes);

@@ -8,3 +8,4 @@ pub mod JudgedSteps
 pub mod JudgedRules
 pub mod JudgedSound
 pub mod JudgingLaws
+pub mod FrontLaws

@@ -2,7 +2,7 @@
 use Prim.Native.Nat.{ℕ, _-_}
 use mathlib.Core.List.{List, [], _∷_, _++_, map}
 use lib.ListN.{length, replicate}
-use Rattle.table.specs.Threads.{none}
+use Rattle.table.specs.Threads.{thread-of, none}
 use Rattle.table.specs.declared.Table.{Table}
 use Rattle.table.specs.declared.Thread.{Thread}
 
@@ -15,9 +15,9 @@ table-of rows ths = record {
   threads = ths ++ replicate (32 - length ths) none;
 }
 
--- A thread by its seven fields, in document 01's order.
+-- A thread by its fields, in document 01's order.
 abbrev pub task : ℕ → ℕ → ℕ → ℕ → ℕ → ℕ → ℕ → Thread
-task d p period o w deadline b = record { domain = d; priority = p; period = period; offset = o; budget = w; deadline = deadline; blocking = b }
+task d p period o w deadline b = thread-of (d ∷ p ∷ period ∷ o ∷ w ∷ deadline ∷ b ∷ [])
 
 -- Thread 0 of domain 1 stands above thread 1 of domain 0.
 abbrev pub upper : Thread

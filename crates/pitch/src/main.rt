@@ -1,9 +1,7 @@
-// The pitch loop's story, step by step, and random drives against a second actuator that is written apart.
-mod play;
+// The pitch loop's story, step by step.
 mod story;
 mod text;
 
 fn main() {
     story::tell();
-    play::compare();
 }

@@ -5,43 +5,11 @@ use super::text::say;
 use super::text::signed;
 use actuator::Actuator;
 use actuator::Driven;
+use example::story;
 use scheduler::Answer;
 use scheduler::Outcome;
 use scheduler::State;
 use table::Table;
-use table::Thread;
-
-// A thread with a period of 10 steps, released at clock 0 and due at the period's end.
-pub fn task(domain: u8, priority: u8, budget: u16, blocking: u16) -> Thread {
-    Thread {
-        domain,
-        priority,
-        period: 10,
-        offset: 0,
-        budget,
-        deadline: 10,
-        blocking,
-    }
-}
-
-// Domains and threads alike: 0 is the pitch loop, 1 the actuator model, 2 the load monitor.
-pub fn bench() -> Table {
-    let mut rows = [0u16; 16];
-    rows[0] = 7;
-    rows[1] = 6;
-    rows[2] = 4;
-    let none = table::no_thread();
-    let mut threads = [none; 32];
-    threads[0] = task(0, 20, 3, 0);
-    threads[1] = task(1, 10, 2, 0);
-    threads[2] = task(2, 30, 4, 3);
-    Table {
-        domains: 3,
-        count: 3,
-        rows,
-        threads,
-    }
-}
 
 // The monitor runs at the first step of a period, and then waits.
 fn monitor_sends(clock: u64) -> u8 {
@@ -102,7 +70,7 @@ fn turn(t: Table, s: State, a: Actuator, clock: u64) -> Driven {
 
 // Three periods, at most 0.25 degrees a step.
 pub fn tell() {
-    let t = bench();
+    let t = story();
     let mut s = scheduler::fresh();
     let mut a = actuator::start(0, 250, 0);
     let mut clock: u64 = 0;

@@ -1,5 +1,6 @@
 // One input for each refusal number, with what the call answers: the number, the call, and the input in words.
 use actuator::Actuator;
+use example::example;
 use reader::Verdict;
 use scheduler::Answer;
 use scheduler::Outcome;
@@ -8,14 +9,6 @@ use sight::View;
 use table::Marking;
 use table::Table;
 use writer::Writing;
-
-// Example E, read from its bytes.
-fn example() -> Table {
-    let r = codec::read(
-        b"\x01\x02\x02\x03\x02\x01\x1E\x0A\x00\x04\x0A\x02\x00\x14\x0A\x00\x03\x0A\x00",
-    );
-    r.table
-}
 
 // The zero table of a refused reading.
 fn no_table() -> Table {

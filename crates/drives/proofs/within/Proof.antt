@@ -5,10 +5,10 @@ use lib.Dec.{lit<, lit≤}
 use mir.Syntax.{w32}
 use borrow.Author.Needs.{needs}
 use Rattle.rival_actuator.proofs.SignedLaws.{minus-fits}
-use Rattle.pitch.proofs.play.within.Statement.{statement}
-use Rattle.pitch.proofs.play.within.Tie as tie
-use Rattle.pitch.proofs.play.within.Reads as reads
-use Rattle.pitch.proofs.play.within.Lts as lts
+use Rattle.drives.proofs.within.Statement.{statement}
+use Rattle.drives.proofs.within.Tie as tie
+use Rattle.drives.proofs.within.Reads as reads
+use Rattle.drives.proofs.within.Lts as lts
 
 cast-result : tie.Need-cast-result
 cast-result c = search needs

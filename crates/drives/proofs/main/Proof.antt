@@ -1,8 +1,8 @@
 -- `pitch::play::compare` is safe and ends: run counts up to 600.
 use Prim.Native.Nat.{_-_}
 use borrow.Author.Needs.{needs}
-use Rattle.pitch.proofs.play.compare.Statement.{statement}
-use Rattle.pitch.proofs.play.compare.Tie as tie
+use Rattle.drives.proofs.main.Statement.{statement}
+use Rattle.drives.proofs.main.Tie as tie
 
 abbrev Inv-loop : tie.InvT-loop
 Inv-loop tally₀ run₀ tally run = Unit {0}
@@ -34,8 +34,8 @@ report-requires c κs = search needs
 returns : tie.Need-returns Inv-loop μ-loop
 returns c = search needs
 
-pub compare-spec : {M : Type 1} → statement M
-compare-spec =
+pub main-spec : {M : Type 1} → statement M
+main-spec =
     tie.close
     (tie.spec
     Inv-loop

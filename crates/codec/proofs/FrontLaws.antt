@@ -1,5 +1,5 @@
--- The verdict on a table is settled by its first 730 bytes: at most 3 + 16 + 32 * 7 numbers are read, of at most three bytes each, and
--- then it matters only whether one byte more is there.
+-- The verdict on a table is settled by its first bytes: at most three numbers, 16 rows and the fields of 32 threads are read, of at most
+-- three bytes each, and then it matters only whether one byte more is there.
 use Prim.Native.Nat.{ℕ, zero, suc, _+_, _-_, _*_, _≤_, _<_, min}
 use mathlib.Core.Path.{_≡_, refl, ap, sym, _∙_}
 use mathlib.Core.Bool.{Bool, true, false}
@@ -15,6 +15,7 @@ use Rattle.basis.specs.Search.{Sought, nothing, found}
 use Rattle.basis.proofs.TestLaws.{by-test, both-ways}
 use Rattle.flow.specs.Flow.{row-ok}
 use Rattle.flow.specs.Gap.{Triple, first-gap}
+use Rattle.table.specs.Threads.{field-count}
 use Rattle.table.specs.Ranges.{range, within, domain-counts, thread-counts, field-range}
 use Rattle.table.specs.declared.Range.{Range}
 use Rattle.table.specs.declared.Thread.{Thread}
@@ -25,6 +26,14 @@ use Rattle.reader.specs.declared.Cursor.{Cursor}
 use Rattle.reader.specs.declared.RowsRead.{RowsRead}
 use Rattle.reader.specs.Reader.{took, good, bad, number-from, judged, ranged, row-from, rows-from, free, field-from, fields-from, threads-from, ended, after-rows, version-from, domains-from, count-from, reading}
 use Rattle.reader.proofs.ReaderLaws.{ranged-le}
+
+-- So many bytes: 730.
+abbrev pub front : ℕ
+front = 3 * (3 + 16 + 32 * field-count) + 1
+
+-- A thread's fields end so many bytes on at the latest.
+abbrev thread-most : ℕ
+thread-most = 3 * field-count
 
 -- A number is told by the first three bytes where it stands.
 number-front : (p m : ℕ) (l : List ℕ) → number p (take (suc (suc (suc m))) l) ≡ number p l
@@ -156,20 +165,20 @@ module _ (n : ℕ) (s : List ℕ) where
           )
 
     -- the threads
-    threads-near : (c : Cursor) (b i : ℕ) → Before c b → Before (threads-from s d c i .cursor) (b + i * 21)
+    threads-near : (c : Cursor) (b i : ℕ) → Before c b → Before (threads-from s d c i .cursor) (b + i * thread-most)
     unfolding threads-from
-    threads-near c b zero h = later (b + 0 * 21) h (omega arith)
+    threads-near c b zero h = later (b + 0 * thread-most) h (omega arith)
     threads-near c b (suc i) h =
-        later (b + suc i * 21)
-        (fields-near (threads-from s d c i .threads) i (threads-from s d c i .cursor) (b + i * 21) 7 (threads-near c b i h)) (omega arith)
+        later (b + suc i * thread-most)
+        (fields-near (threads-from s d c i .threads) i (threads-from s d c i .cursor) (b + i * thread-most) field-count (threads-near c b i h)) (omega arith)
 
-    threads-same : (c : Cursor) (b i : ℕ) → Before c b → b + i * 21 ≤ n → threads-from (take n s) d c i ≡ threads-from s d c i
+    threads-same : (c : Cursor) (b i : ℕ) → Before c b → b + i * thread-most ≤ n → threads-from (take n s) d c i ≡ threads-from s d c i
     unfolding threads-from
     threads-same c b zero h k = refl
     threads-same c b (suc i) h k =
         rw (
           threads-same c b i h (omega arith),
-          fields-same (threads-from s d c i .threads) i (threads-from s d c i .cursor) (b + i * 21) 7 (threads-near c b i h) (omega arith),
+          fields-same (threads-from s d c i .threads) i (threads-from s d c i .cursor) (b + i * thread-most) field-count (threads-near c b i h) (omega arith),
         )
 
   -- whether a byte stands at a place before n
@@ -178,7 +187,7 @@ module _ (n : ℕ) (s : List ℕ) where
       by-test (ltb p (length s)) (λ e. rw e (lt-ltb p (length (take n s)) (omega (arith, length-take n s, ltb-true p (length s) e))))
       (λ e. rw e (le-ltb p (length (take n s)) (omega (arith, length-take n s, ltb-false p (length s) e))))
 
-  after-same : (d m : ℕ) (r : RowsRead) (b : ℕ) → Before (r .cursor) b → b + m * 21 < n → after-rows (take n s) d m r ≡ after-rows s d m r
+  after-same : (d m : ℕ) (r : RowsRead) (b : ℕ) → Before (r .cursor) b → b + m * thread-most < n → after-rows (take n s) d m r ≡ after-rows s d m r
   unfolding after-rows ended
   after-same d m r b h k =
       let t = threads-near d (r .cursor) b m h in
@@ -197,15 +206,15 @@ module _ (n : ℕ) (s : List ℕ) where
   unfolding count-from
   count-near = ranged-near (domains-from s) thread-counts 5 6 domains-near
 
-  version-same : 730 ≤ n → version-from (take n s) ≡ version-from s
+  version-same : front ≤ n → version-from (take n s) ≡ version-from s
   unfolding version-from
   version-same h = ranged-same (good 0 0 0) (range 1 2) 4 0 (record { start = omega arith; next = omega arith }) (omega arith)
 
-  domains-same : 730 ≤ n → domains-from (take n s) ≡ domains-from s
+  domains-same : front ≤ n → domains-from (take n s) ≡ domains-from s
   unfolding domains-from
   domains-same h = rw (version-same h) (ranged-same (version-from s) domain-counts 5 3 version-near (omega arith))
 
-  count-same : 730 ≤ n → count-from (take n s) ≡ count-from s
+  count-same : front ≤ n → count-from (take n s) ≡ count-from s
   unfolding count-from
   count-same h = rw (domains-same h) (ranged-same (domains-from s) thread-counts 5 6 domains-near (omega arith))
 
@@ -217,8 +226,8 @@ module _ (n : ℕ) (s : List ℕ) where
   unfolding count-from
   count-few = ranged-le s (domains-from s) thread-counts 5
 
-  -- So the first bytes of a file, 730 or more, have the verdict and the table of the whole.
-  pub reading-front : 730 ≤ n → reading (take n s) ≡ reading s
+  -- So the first bytes of a file, `front` or more, have the verdict and the table of the whole.
+  pub reading-front : front ≤ n → reading (take n s) ≡ reading s
   unfolding reading
   reading-front h =
       let d = domains-from s .value in

@@ -1,12 +1,12 @@
 // Random drives, some of them damaged, each compared with what the second actuator gives.
-use super::story::bench;
-use super::story::task;
 use actuator::Actuator;
 use actuator::Driven;
 use dice::below;
 use dice::below8;
 use dice::part;
 use dice::seldom;
+use example::example;
+use example::story;
 use rival_actuator::agrees;
 use same::outcome_number;
 use scheduler::State;
@@ -69,28 +69,11 @@ fn thread(seed: u64) -> u8 {
     }
 }
 
-// Document 01's example E: thread 0 is private and stands above thread 1.
-fn example() -> Table {
-    let mut rows = [0u16; 16];
-    rows[0] = 3;
-    rows[1] = 2;
-    let none = table::no_thread();
-    let mut threads = [none; 32];
-    threads[0] = task(1, 30, 4, 2);
-    threads[1] = task(0, 20, 3, 0);
-    Table {
-        domains: 2,
-        count: 2,
-        rows,
-        threads,
-    }
-}
-
 fn table(seed: u64) -> Table {
     if seldom(seed, 9, 3) {
         return example();
     }
-    bench()
+    story()
 }
 
 // What is damaged in a call: nothing (0) in three of four.
@@ -265,7 +248,7 @@ fn report(tally: &Tally) {
 }
 
 // 600 runs of 30 drives.
-pub fn compare() {
+fn main() {
     let mut tally = [0u32; 64];
     for run in 0..600u32 {
         play(&mut tally, part(4, run));

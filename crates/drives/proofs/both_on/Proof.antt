@@ -3,8 +3,8 @@ use mathlib.Core.Path.{sym}
 use native.Mathlib.Omega.{arith}
 use lib.Seq.{length-take-le}
 use borrow.Author.Needs.{needs}
-use Rattle.pitch.proofs.play.both_on.Statement.{statement}
-use Rattle.pitch.proofs.play.both_on.Tie as tie
+use Rattle.drives.proofs.both_on.Statement.{statement}
+use Rattle.drives.proofs.both_on.Tie as tie
 
 slice-aggregate-both : tie.Need-slice-aggregate-both
 slice-aggregate-both c = sym (length-take-le _ _ (omega arith))

@@ -1,8 +1,8 @@
 -- `pitch::play::play` is safe and ends: k counts up to 30.
 use Prim.Native.Nat.{_-_}
 use borrow.Author.Needs.{needs}
-use Rattle.pitch.proofs.play.play.Statement.{statement}
-use Rattle.pitch.proofs.play.play.Tie as tie
+use Rattle.drives.proofs.play.Statement.{statement}
+use Rattle.drives.proofs.play.Tie as tie
 
 abbrev Inv-loop : tie.InvT-loop
 Inv-loop tally₀ seed t g₀ k₀ tally g k = Unit {0}

@@ -5,10 +5,10 @@ use lib.Dec.{lit<, lit≤}
 use mir.Syntax.{w64}
 use borrow.Author.Needs.{needs}
 use Rattle.rival_actuator.proofs.SignedLaws.{minus-fits}
-use Rattle.pitch.proofs.play.near.Statement.{statement}
-use Rattle.pitch.proofs.play.near.Tie as tie
-use Rattle.pitch.proofs.play.near.Reads as reads
-use Rattle.pitch.proofs.play.near.Lts as lts
+use Rattle.drives.proofs.near.Statement.{statement}
+use Rattle.drives.proofs.near.Tie as tie
+use Rattle.drives.proofs.near.Reads as reads
+use Rattle.drives.proofs.near.Lts as lts
 
 cast-result : tie.Need-cast-result
 cast-result c = search needs
