@@ -6,7 +6,7 @@ use Rattle.pitch.proofs.story.tell.Tie as tie
 use Rattle.pitch.proofs.story.tell.Reads as reads
 use Rattle.pitch.proofs.story.tell.Lts as lts
 use Rattle.actuator.proofs.start.Reads as start-reads
-use Rattle.pitch.proofs.story.bench.Reads as bench-reads
+use Rattle.example.proofs.story.Reads as story-reads
 use Rattle.pitch.proofs.story.say_step.Reads as say-step-reads
 use Rattle.pitch.proofs.story.turn.Reads as turn-reads
 use Rattle.state.proofs.fresh.Reads as fresh-reads
@@ -17,8 +17,8 @@ Inv-loop t s₀ a₀ clock₀ s a clock = clock ≤ 30
 abbrev μ-loop : tie.MeasureT-loop
 μ-loop t s₀ a₀ clock₀ s a clock = 30 - clock
 
-bench-requires : tie.Need-bench-requires Inv-loop μ-loop
-bench-requires c κs = tt
+story-requires : tie.Need-story-requires Inv-loop μ-loop
+story-requires c κs = tt
 
 fresh-requires : tie.Need-fresh-requires Inv-loop μ-loop
 fresh-requires c κs = tt
@@ -53,7 +53,7 @@ tell-spec =
     (tie.spec
     Inv-loop
     μ-loop
-    bench-requires
+    story-requires
     fresh-requires
     start-requires
     loop-holds
