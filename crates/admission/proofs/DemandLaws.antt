@@ -15,9 +15,9 @@ use Rattle.table.specs.Threads.{thread}
 use Rattle.table.specs.Legal.{Legal, Legal-thread}
 use Rattle.table.specs.declared.Table.{Table}
 use Rattle.table.specs.declared.Thread.{Thread}
-use Rattle.admission.specs.Demand.{sum, above, share, demand, Demands, upper, not-upper}
+use Rattle.admission.specs.Demand.{sum, Sum-of, above, share, demand, Demands, upper, not-upper}
 use Rattle.admission.proofs.QuotientLaws.{ceil-mono, ceil-reach}
-use Rattle.admission.proofs.SumLaws.{sum-mono, sum-longer, sum-but-one}
+use Rattle.admission.proofs.SumLaws.{sum-mono, sum-longer, sum-but-one, sum-given, sum-only}
 
 -- What a thread brings, where it stands above and where it does not.
 pub share-above : (own h : Thread) (x : ℕ) → own .priority < h .priority → share own x h ≡ ceil x (h .period) * h .budget
@@ -90,3 +90,13 @@ pub demand-partial : (t : Table) → Legal t → (i x n : ℕ) → i < t .count 
 unfolding demand
 demand-partial t g i x n k l m =
     omega (arith, demand-most t g i x k l, sum-longer (λ h. share (thread t i) x (thread t h)) n (t .count) m)
+
+-- The demand is W and the sum of what each thread brings, and nothing else.
+module _ (t : Table) (i x : ℕ) where
+  pub demand-exactly : (n : ℕ) → (demand t i x ≡ thread t i .budget + n) ↔ Sum-of (Demands t i x) (t .count) n
+  unfolding demand
+  demand-exactly n = (
+    λ e. let q : sum (t .count) (λ h. share (thread t i) x (thread t h)) ≡ n = omega (arith, e) in
+        subst (λ (k : ℕ). Sum-of (Demands t i x) (t .count) k) q (sum-given _ (Demands t i x) (share-exactly t i x) (t .count)),
+    λ r. let q : sum (t .count) (λ h. share (thread t i) x (thread t h)) ≡ n = sum-only _ (Demands t i x) (share-exactly t i x) r in rw q,
+  )

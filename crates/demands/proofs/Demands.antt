@@ -2,6 +2,7 @@
 use Prim.Native.Nat.{ℕ, _<_}
 use mathlib.Core.Path.{_≡_, refl, ap}
 use mathlib.Core.Logic.{_↔_}
+use mathlib.Core.List.{[]}
 use mathlib.Core.Bool.{true, false}
 use native.Mathlib.Omega.{arith}
 use lib.ListN.{replicate}
@@ -11,7 +12,7 @@ use Rattle.basis.proofs.TestLaws.{by-test}
 use Rattle.table.specs.Legal.{legal, Legal}
 use Rattle.table.specs.Mark.{marking}
 use Rattle.table.specs.declared.Table.{Table}
-use Rattle.table.proofs.LegalLaws.{legal-complete, legal-small}
+use Rattle.table.proofs.LegalLaws.{legal-sound, legal-complete}
 use Rattle.table.proofs.MarkLaws.{marks-exactly}
 use Rattle.reader.proofs.ReaderLaws.{refused-zero}
 use Rattle.writer.proofs.WriterLaws.{refused-stays}
@@ -21,15 +22,20 @@ use Rattle.codec.proofs.JudgingLaws.{judged-exactly}
 use Rattle.state.specs.State.{no-progress}
 use Rattle.state.specs.declared.Progress.{Progress}
 use Rattle.state.specs.declared.State.{State}
-use Rattle.state.proofs.FitLaws.{fits-complete}
-use Rattle.walk.proofs.StepLaws.{chosen-rested}
+use Rattle.state.proofs.FitLaws.{fits-sound, fits-complete}
+use Rattle.state.proofs.ReleaseLaws.{release-at, at-release, before-offset, other-phases, past-deadline}
+use Rattle.walk.proofs.StepLaws.{step-clock, chosen-rested}
+use Rattle.walk.proofs.ReachedLaws.{runs-exactly, two-finishes, strange-waits}
 use Rattle.walk.proofs.PaidLaws.{pays-once, payments-most}
 use Rattle.walk.proofs.ChoiceLaws.{below-chosen, idle-only, chosen-first, chosen-says, reached-pay-one}
 use Rattle.scheduler.proofs.RefusalLaws.{number-exactly, refused-keeps, same-refusal, taken-steps}
 use Rattle.scheduler.proofs.CallLaws.{calls-steps}
 use Rattle.sight.specs.Shown.{showing-state, threads-shown}
+use Rattle.sight.proofs.SightLaws.{visible-exactly, seen-at, hidden-at}
 use Rattle.sight.proofs.NumberLaws.{view-number-exactly, state-number-exactly, refused-zeros}
-use Rattle.isolation.proofs.Isolation.{demand-3, state-always-shown}
+use Rattle.isolation.proofs.Isolation.{telling-chosen, telling-refused, demand-3, state-always-shown}
+use Rattle.host.proofs.HostLaws.{mark-refused-exactly, bound-refused-exactly}
+use Rattle.admission.proofs.DemandLaws.{demand-exactly}
 use Rattle.admission.proofs.BoundLaws.{bound-exactly, none-exactly, bounding-exactly}
 use Rattle.admission.proofs.AdmitLaws.{admitting-exactly}
 use Rattle.admission.proofs.ProhibitionLaws.{prohibition-exactly, prohibiting-exactly}
@@ -38,10 +44,17 @@ use Rattle.demands.specs.Demand2.{Demand-2}
 use Rattle.demands.specs.Demand3.{Demand-3}
 
 -- Marks are refused with 11 exactly where the table is not legal.
-marks-refused : (t : Table) → (marking t .number ≡ 11) ↔ (legal t ≡ false)
+marks-refused : (t : Table) → (marking t ≡ refused 11) ↔ (legal t ≡ false)
 unfolding marking pick
 marks-refused t = (
-  λ e. by-test (legal t) (λ l. let z : marking t .number ≡ 0 = rw l in absurd (omega arith)) (λ l. l),
+  λ e. by-test (legal t) (λ l. let z : marking t .number ≡ 0 = rw l in let n = ap (λ (w : Told). w .number) e in absurd (omega arith)) (λ l. l),
+  λ l. rw l,
+)
+
+marks-answered : (t : Table) → (marking t ≡ answered []) ↔ (legal t ≡ true)
+unfolding marking pick
+marks-answered t = (
+  λ e. by-test (legal t) (λ l. l) (λ l. let z : marking t .number ≡ 11 = rw l in let n = ap (λ (w : Told). w .number) e in absurd (omega arith)),
   λ l. rw l,
 )
 
@@ -50,13 +63,18 @@ demand-1-holds = record {
   bytes-judged = judged-exactly;
   refused-table = refused-zero;
   step-numbered = number-exactly;
-  marks-numbered = marks-refused;
+  legal-exactly = λ t z. (legal-sound t z, legal-complete t);
+  fits-exactly = λ t s few long. (fits-sound t s few long, fits-complete t s);
+  marks-refused = marks-refused;
+  marks-answered = marks-answered;
   writer-numbered = write-number-exactly;
   view-numbered = view-number-exactly;
   state-numbered = state-number-exactly;
   bound-answered = bounding-exactly;
   admission-answered = admitting-exactly;
   prohibition-answered = prohibiting-exactly;
+  host-mark-refused = mark-refused-exactly;
+  host-bound-refused = bound-refused-exactly;
   state-back = refused-keeps;
   nothing-written = refused-stays;
   zeros-shown = refused-zeros;
@@ -71,6 +89,14 @@ demand-2-holds = record {
   marks = marks-exactly;
   call-steps = λ t ok bs e s f l. taken-steps t bs s ok (fits-complete t s f) e l;
   run-steps = calls-steps;
+  release-each = release-at;
+  at-release = at-release;
+  before-offset = before-offset;
+  other-phases = other-phases;
+  past-deadline = past-deadline;
+  runs-exactly = runs-exactly;
+  two-finishes = two-finishes;
+  strange-waits = strange-waits;
   chosen-rested = chosen-rested;
   chosen-says = chosen-says;
   chosen-first = chosen-first;
@@ -79,6 +105,8 @@ demand-2-holds = record {
   below-chosen = below-chosen;
   pays-once = pays-once;
   payments-most = payments-most;
+  step-clock = step-clock;
+  demands = demand-exactly;
   bounds = bound-exactly;
   no-bounds = none-exactly;
   prohibitions = prohibition-exactly;
@@ -88,4 +116,9 @@ pub demand-3-holds : Demand-3
 demand-3-holds = record {
   isolated = λ t g. demand-3 t (legal-complete t g) (g .sized);
   shown-throughout = λ t g. state-always-shown t (legal-complete t g);
+  told-answers = telling-chosen;
+  told-refusals = telling-refused;
+  visible-exactly = visible-exactly;
+  seen-at = seen-at;
+  hidden-at = hidden-at;
 }

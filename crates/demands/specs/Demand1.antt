@@ -3,12 +3,12 @@
 -- call ends and never traps is what the proof of each operation says, none of which has a `requires`.
 use Prim.Native.Nat.{ℕ, _≤_, _<_}
 use mathlib.Core.Path.{_≡_}
-use mathlib.Core.List.{List}
+use mathlib.Core.List.{List, []}
 use mathlib.Core.Logic.{_↔_}
 use mathlib.Core.Bool.{true, false}
 use lib.ListN.{length, replicate}
-use Rattle.basis.specs.Told.{Told, refused}
-use Rattle.table.specs.Legal.{legal}
+use Rattle.basis.specs.Told.{Told, answered, refused}
+use Rattle.table.specs.Legal.{legal, Sized, Legal}
 use Rattle.table.specs.Mark.{marking}
 use Rattle.table.specs.declared.Table.{Table}
 use Rattle.numeral.specs.NumberRules.{Bytes}
@@ -16,7 +16,7 @@ use Rattle.reader.specs.Reader.{no-table, reading}
 use Rattle.writer.specs.Writer.{writing, written}
 use Rattle.writer.specs.Numbered.{Write-numbered}
 use Rattle.codec.specs.Judging.{Judgment}
-use Rattle.state.specs.State.{no-progress}
+use Rattle.state.specs.State.{no-progress, fits, Fits}
 use Rattle.state.specs.declared.Progress.{Progress}
 use Rattle.state.specs.declared.State.{State}
 use Rattle.walk.specs.declared.Answer.{Answer}
@@ -24,6 +24,7 @@ use Rattle.scheduler.specs.Taken.{taken}
 use Rattle.scheduler.specs.Numbered.{Numbered}
 use Rattle.sight.specs.Shown.{showing, showing-state, threads-shown}
 use Rattle.sight.specs.Numbered.{View-numbered, State-numbered}
+use Rattle.host.specs.Host.{refusal, thread-mark, thread-bound, Refuses}
 use Rattle.admission.specs.Bounded.{bounding, Bound-answer}
 use Rattle.admission.specs.Admit.{admitting, bounds-given, Admit-answer}
 use Rattle.admission.specs.Prohibition.{prohibiting, Prohibition-answer}
@@ -34,14 +35,20 @@ pub record Demand-1 : Type 0 where
   pub refused-table : (s : List ℕ) → 0 < reading s .told .number → reading s .table ≡ no-table
   -- Damaged tables handed in, stale states, short step lists: a step's number is given exactly when its row says.
   pub step-numbered : (t : Table) (bs : List ℕ) (s : State) (n : ℕ) → (taken t bs s .told .number ≡ n) ↔ Numbered t bs s n
+  -- What the rows call legal and fitting is what document 01 calls so.
+  pub legal-exactly : (t : Table) → Sized t → (legal t ≡ true) ↔ Legal t
+  pub fits-exactly : (t : Table) (s : State) → t .count ≤ 32 → length (s .threads) ≡ 32 → (fits t s ≡ true) ↔ Fits t s
   -- So is each number of the other operations.
-  pub marks-numbered : (t : Table) → (marking t .number ≡ 11) ↔ (legal t ≡ false)
+  pub marks-refused : (t : Table) → (marking t ≡ refused 11) ↔ (legal t ≡ false)
+  pub marks-answered : (t : Table) → (marking t ≡ answered []) ↔ (legal t ≡ true)
   pub writer-numbered : (b : List ℕ) (at : ℕ) (t : Table) (n : ℕ) → (writing b at t .number ≡ n) ↔ Write-numbered b at t n
   pub view-numbered : (t : Table) (d : ℕ) (a : Answer) (n : ℕ) → (showing t d a .number ≡ n) ↔ View-numbered t d n
   pub state-numbered : (t : Table) (s : State) (d n : ℕ) → (showing-state t s d .number ≡ n) ↔ State-numbered t s d n
   pub bound-answered : (t : Table) (i : ℕ) (w : Told) → (bounding t i ≡ w) ↔ Bound-answer t i w
   pub admission-answered : (t : Table) (w : Told) (bs : List ℕ) → ((admitting t ≡ w) × (bounds-given t ≡ bs)) ↔ Admit-answer t w bs
   pub prohibition-answered : (t : Table) (l : ℕ) (w : Told) → (prohibiting t l ≡ w) ↔ Prohibition-answer t l w
+  pub host-mark-refused : (s : List ℕ) (i n : ℕ) → (thread-mark s i ≡ refusal n) ↔ Refuses s i n
+  pub host-bound-refused : (s : List ℕ) → Bytes s → (i n : ℕ) → (thread-bound s i ≡ refusal n) ↔ Refuses s i n
   -- A refused step hands the state back as it came.
   pub state-back : (t : Table) (bs : List ℕ) (s : State) → 0 < taken t bs s .told .number → taken t bs s .state ≡ s
   -- A refused writer leaves the lent buffer as it was, and a refused domain is shown zeros.

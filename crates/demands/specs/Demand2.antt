@@ -1,10 +1,11 @@
 -- Demand 2, whole: both round trips; and marks, the thread or idle chosen at each step, what every thread pays and the admission answers
--- are those of document 01, from every fitting state.
+-- are those of document 01, from every fitting state. `run-steps` and `call-steps` join the calls to the step, whose definition fixes the
+-- whole state after it; the fields behind them say its rules in other words.
 use Prim.Native.Nat.{ℕ, _+_, _-_, _%_, _≤_, _<_}
 use mathlib.Core.Path.{_≡_}
 use mathlib.Core.List.{List, [], _∷_, map}
-use mathlib.Core.Logic.{_↔_}
-use mathlib.Core.Bool.{true, false}
+use mathlib.Core.Logic.{_≢_, _↔_}
+use mathlib.Core.Bool.{Bool, true, false}
 use lib.ListN.{length, getD, take, drop}
 use Rattle.basis.specs.Search.{found, nothing}
 use Rattle.basis.specs.Told.{answered}
@@ -12,21 +13,24 @@ use Rattle.table.specs.Threads.{thread}
 use Rattle.table.specs.Legal.{legal, Sized, Legal}
 use Rattle.table.specs.Mark.{Leaks, marked, marks-of, marks-given}
 use Rattle.table.specs.declared.Table.{Table}
+use Rattle.table.specs.declared.Thread.{Thread}
 use Rattle.numeral.specs.NumberRules.{Bytes}
 use Rattle.reader.specs.Reader.{accepted, reading}
 use Rattle.writer.specs.Format.{bytes}
 use Rattle.writer.specs.Writer.{overlaid, writing, written}
-use Rattle.state.specs.State.{progress, last-clock, Fits}
-use Rattle.state.specs.Release.{release, releases}
+use Rattle.state.specs.State.{with-rest, progress, last-clock, Fits}
+use Rattle.state.specs.Release.{released, release, releases}
+use Rattle.state.specs.Methods.{finish}
+use Rattle.state.specs.declared.Progress.{Progress}
 use Rattle.state.specs.declared.State.{State}
-use Rattle.walk.specs.Walk.{runs}
+use Rattle.walk.specs.Walk.{heard, runs, visit}
 use Rattle.walk.specs.Step.{step, Rested, Names, Says}
 use Rattle.walk.specs.Paid.{pays, payments}
 use Rattle.walk.specs.declared.Answer.the-variants.{Idle}
 use Rattle.scheduler.specs.Taken.{took, taken}
 use Rattle.scheduler.specs.Calls.{Whole-steps, calls, steps}
 use Rattle.admission.specs.Bounded.{bound, Is-bound, No-bound}
-use Rattle.admission.specs.Demand.{Sum-of}
+use Rattle.admission.specs.Demand.{demand, Sum-of, Demands}
 use Rattle.admission.specs.Prohibition.{prohibition, Prohibits}
 
 pub record Demand-2 : Type 0 where
@@ -45,6 +49,21 @@ pub record Demand-2 : Type 0 where
       → taken t bs s ≡ took (step t bs s)
   pub run-steps : (t : Table) → legal t ≡ true → (a : List (List ℕ)) → Whole-steps t a → (s : State) → Fits t s
       → s .clock + length a ≤ last-clock → calls t a s ≡ map took (steps t a s)
+  -- The release, of every thread: phase 0 sets the rest to W and clears the mark; before O, and in other phases below D, nothing happens;
+  -- from D on the rest is 0.
+  pub release-each : (t : Table) (n : ℕ) (s : State) (i : ℕ) → i < n → n ≤ length (s .threads)
+      → progress (release t n s) i ≡ released (thread t i) (s .clock) (progress s i)
+  pub at-release : (th : Thread) (c : ℕ) (p : Progress) → th .offset ≤ c → (c - th .offset) % th .period ≡ 0
+      → (released th c p .rest ≡ th .budget) × (released th c p .finished ≡ false) × (released th c p .ran ≡ p .ran)
+  pub before-offset : (th : Thread) (c : ℕ) (p : Progress) → c < th .offset → released th c p ≡ p
+  pub other-phases : (th : Thread) (c : ℕ) (p : Progress) → th .offset ≤ c → (c - th .offset) % th .period ≢ 0
+      → (c - th .offset) % th .period < th .deadline → released th c p ≡ p
+  pub past-deadline : (th : Thread) (c : ℕ) (p : Progress) → th .offset ≤ c → (c - th .offset) % th .period ≢ 0
+      → th .deadline ≤ (c - th .offset) % th .period → released th c p ≡ with-rest 0 p
+  -- A thread runs by the byte 1, unless its finish mark is set; 2 sets the mark; every other byte acts as 0.
+  pub runs-exactly : (b : ℕ) (p : Progress) → (runs b p ≡ true) ↔ ((b ≡ 1) × (p .finished ≡ false))
+  pub two-finishes : (i : ℕ) (s : State) → heard 2 i s ≡ finish s i
+  pub strange-waits : (m : List Bool) (b i : ℕ) (s : State) → b ≢ 1 → b ≢ 2 → visit m b i s ≡ visit m 0 i s
   -- The thread chosen had a rest, and it runs, or is marked and waits; above it no thread with a rest runs or is marked.
   pub chosen-rested : (t : Table) (bs : List ℕ) (s : State) → Rested (step t bs s .answer) (release t (t .count) s)
   pub chosen-says : (t : Table) (bs : List ℕ) (s : State) → Says (marks-of t) bs (release t (t .count) s) (step t bs s .answer)
@@ -65,7 +84,10 @@ pub record Demand-2 : Type 0 where
   pub pays-once : (t : Table) (bs : List ℕ) (s : State) (i : ℕ) → pays t bs s i ≤ 1
   pub payments-most : (t : Table) (i : ℕ) (bs : List ℕ) (more : List (List ℕ)) (s : State) → i < t .count → Fits t s
       → ((c : ℕ) → s .clock < c → c ≤ s .clock + length more → releases t i c ≡ false) → payments t i (bs ∷ more) s ≤ thread t i .budget
-  -- A bound is the smallest length from W to D whose demand is at most that length, and there is none exactly where no length is so.
+  -- The clock goes up by one.
+  pub step-clock : (t : Table) (bs : List ℕ) (s : State) → step t bs s .state .clock ≡ s .clock + 1
+  -- The demand is W and the sum of what each thread brings; a bound is the smallest length from W to D whose demand is at most that length, and there is none exactly where no length is so.
+  pub demands : (t : Table) (i x n : ℕ) → (demand t i x ≡ thread t i .budget + n) ↔ Sum-of (Demands t i x) (t .count) n
   pub bounds : (t : Table) (i x : ℕ) → (bound t i ≡ found x) ↔ Is-bound t i x
   pub no-bounds : (t : Table) (i : ℕ) → (bound t i ≡ nothing) ↔ No-bound t i
   -- The prohibition time is the sum of what each thread brings.

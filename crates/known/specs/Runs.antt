@@ -7,7 +7,7 @@ use Rattle.basis.specs.Tests.{pick}
 use Rattle.basis.specs.Turns.{after}
 use Rattle.table.specs.declared.Table.{Table}
 use Rattle.example.specs.Example.{sent}
-use Rattle.state.specs.State.{no-progress, with-rest, with-mark, with-count, fresh}
+use Rattle.state.specs.State.{no-progress, with-rest, with-finished, with-count, fresh}
 use Rattle.state.specs.declared.Progress.{Progress}
 use Rattle.state.specs.declared.State.{State}
 use Rattle.walk.specs.declared.Answer.{Answer}
@@ -29,19 +29,19 @@ idle = 0 ∷ 2 ∷ []
 abbrev pub refused-with : ℕ → List ℕ
 refused-with why = why ∷ []
 
--- What a domain is shown: 0 and thread i, or 0 and 255 for a gap; or it is refused with a number, and 255.
+-- What a domain is shown: 0 and thread i, or 0 and 256, which no thread is called, for a gap; or it is refused with a number, and 256.
 abbrev pub seen : ℕ → List ℕ
 seen i = 0 ∷ i ∷ []
 
 abbrev pub gap : List ℕ
-gap = 0 ∷ 255 ∷ []
+gap = 0 ∷ 256 ∷ []
 
 abbrev pub not-shown : ℕ → List ℕ
-not-shown why = why ∷ 255 ∷ []
+not-shown why = why ∷ 256 ∷ []
 
-abbrev or-255 : List ℕ → List ℕ
-or-255 [] = 255 ∷ []
-or-255 (i ∷ more) = i ∷ more
+abbrev or-256 : List ℕ → List ℕ
+or-256 [] = 256 ∷ []
+or-256 (i ∷ more) = i ∷ more
 
 -- Lists one after the other.
 abbrev pub joined : List (List ℕ) → List ℕ
@@ -50,7 +50,7 @@ joined (x ∷ xs) = x ++ joined xs
 
 -- A thread's rest, finish mark and count; a state by its clock and the threads that it begins with, zeros in the other places.
 abbrev pub left : ℕ → Bool → ℕ → Progress
-left rest mark n = with-rest rest (with-mark mark (with-count n no-progress))
+left rest mark n = with-rest rest (with-finished mark (with-count n no-progress))
 
 abbrev pub places : List Progress → List Progress
 places ps = ps ++ replicate (32 - length ps) no-progress
@@ -85,7 +85,7 @@ state-after t bs = state (after (taken t) (λ (r : Taken). r .state) (sent bs) f
 
 -- What a domain is shown of an answer; of each call of such a run; and of a state.
 abbrev pub shown : Table → ℕ → Answer → List ℕ
-shown t d a = showing t d a .number ∷ or-255 (showing t d a .values)
+shown t d a = showing t d a .number ∷ or-256 (showing t d a .values)
 
 abbrev pub shown-to : Table → ℕ → List ℕ → List ℕ
 shown-to t d bs = joined (map (λ (r : Taken). shown t d (answer-of (r .told .values))) (calls t (sent bs) fresh))

@@ -15,7 +15,7 @@ use Rattle.table.specs.Mark.{seen-by, marks-of}
 use Rattle.table.specs.declared.Table.{Table}
 use Rattle.table.specs.declared.Thread.{Thread}
 use Rattle.example.specs.Example.{table-of, task}
-use Rattle.state.specs.State.{with-rest, with-mark, progress, put, fits, fresh}
+use Rattle.state.specs.State.{with-rest, with-finished, progress, put, fits, fresh}
 use Rattle.state.specs.Release.{released, release, releases}
 use Rattle.state.specs.Methods.{pay, count}
 use Rattle.state.specs.declared.Progress.{Progress}
@@ -224,7 +224,7 @@ unfoldable pub refill : Table → ℕ → State → State
 refill t zero s = s
 refill t (suc n) s =
     let p : Progress = progress s n in
-    let full : Progress = with-mark false (with-rest (p .rest + thread t n .budget) p) in
+    let full : Progress = with-finished false (with-rest (p .rest + thread t n .budget) p) in
     put (refill t n s) n (pick (releases t n (s .clock)) full (released (thread t n) (s .clock) p))
 
 unfoldable pub refilling : Table → List ℕ → State → Walked

@@ -1,7 +1,7 @@
 -- What the methods on the state do, each to one thread or to the clock.
 use Prim.Native.Nat.{ℕ, _+_, _-_}
 use mathlib.Core.Bool.{true}
-use Rattle.state.specs.State.{with-rest, with-mark, with-count, progress, put}
+use Rattle.state.specs.State.{with-rest, with-finished, with-count, progress, put}
 use Rattle.state.specs.declared.Progress.{Progress}
 use Rattle.state.specs.declared.State.{State}
 
@@ -14,7 +14,7 @@ pay s i = put s i (paid (progress s i))
 
 -- Finish sets the finish mark.
 abbrev pub done : Progress → Progress
-done p = with-mark true p
+done p = with-finished true p
 
 unfoldable pub finish : State → ℕ → State
 finish s i = put s i (done (progress s i))

@@ -17,8 +17,8 @@ no-progress = record { rest = 0; finished = false; ran = 0 }
 abbrev pub with-rest : ℕ → Progress → Progress
 with-rest n p = record { rest = n; finished = p .finished; ran = p .ran }
 
-abbrev pub with-mark : Bool → Progress → Progress
-with-mark b p = record { rest = p .rest; finished = b; ran = p .ran }
+abbrev pub with-finished : Bool → Progress → Progress
+with-finished b p = record { rest = p .rest; finished = b; ran = p .ran }
 
 abbrev pub with-count : ℕ → Progress → Progress
 with-count n p = record { rest = p .rest; finished = p .finished; ran = n }

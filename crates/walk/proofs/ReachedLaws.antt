@@ -2,13 +2,18 @@
 use Prim.Native.Nat.{ℕ}
 use mathlib.Core.Path.{_≡_, refl}
 use mathlib.Core.List.{List}
-use mathlib.Core.Bool.{Bool, true, false}
+use mathlib.Core.Bool.{Bool, true, false, not}
+use mathlib.Core.Logic.{_≢_, _↔_}
+use borrow.Author.Tests.{eqb-true, eq-eqb, ne-eqb, not-true}
 use lib.ListN.{getD}
-use Rattle.basis.proofs.TestLaws.{either, both-ways, refuted}
+use lib.Dec.{eqb}
+use Rattle.basis.specs.Tests.{pick, and}
+use Rattle.basis.proofs.TestLaws.{either, both-ways, refuted, and-both, and-of}
 use Rattle.state.specs.State.{progress}
-use Rattle.state.specs.Methods.{pay, count}
+use Rattle.state.specs.Methods.{pay, finish, count}
+use Rattle.state.specs.declared.Progress.{Progress}
 use Rattle.state.specs.declared.State.{State}
-use Rattle.walk.specs.Walk.{runs, walked, decided, chosen}
+use Rattle.walk.specs.Walk.{heard, runs, walked, decided, visit, chosen}
 use Rattle.walk.specs.declared.Answer.the-variants.{Ran, IdleFor, Idle}
 use Rattle.walk.specs.declared.Walked.{Walked}
 
@@ -24,3 +29,20 @@ module _ (m : List Bool) (b i : ℕ) (s : State) where
   marked-ends e =
       let P : Walked → Type 0 = λ w. chosen (w .answer) ≡ true in
       either P (runs b (progress s i)) (λ _. refl) (λ _. either P (getD m i false) (λ _. refl) (λ n. refuted e n))
+
+-- 1 runs, unless the finish mark is set; no other byte does.
+pub runs-exactly : (b : ℕ) (p : Progress) → (runs b p ≡ true) ↔ ((b ≡ 1) × (p .finished ≡ false))
+unfolding runs
+runs-exactly b p = (
+  λ e. let q = and-both (eqb b 1) (not (p .finished)) e in (eqb-true b 1 (q .0), not-true _ (q .1)),
+  λ h. and-of (eq-eqb b 1 (h .0)) (rw (h .1)),
+)
+
+-- 2 is finish; every byte but 1 and 2 acts as 0.
+pub two-finishes : (i : ℕ) (s : State) → heard 2 i s ≡ finish s i
+unfolding heard pick
+two-finishes i s = refl
+
+pub strange-waits : (m : List Bool) (b i : ℕ) (s : State) → b ≢ 1 → b ≢ 2 → visit m b i s ≡ visit m 0 i s
+unfolding visit decided heard runs pick
+strange-waits m b i s n k = rw (ne-eqb b 1 n, ne-eqb b 2 k)

@@ -31,7 +31,7 @@ decided m b i s =
     pick (runs b (progress s i)) (walked (Ran i) (count (pay s i) i))
     (pick (getD m i false) (walked (IdleFor i) (pay s i)) (walked Idle (pay s i)))
 
--- The walk comes to thread i, whose byte is b: passed if its rest is 0.
+-- The walk comes to thread i, whose byte is b: passed if its rest is 0. Idle says here that nobody is chosen yet.
 unfoldable pub visit : List Bool → ℕ → ℕ → State → Walked
 visit m b i s = pick (eqb (progress s i .rest) 0) (walked Idle s) (decided m b i (heard b i s))
 
