@@ -1,20 +1,12 @@
--- What a read answers, as a count of bytes; and what 4,000 steps have room in.
+-- What was read, and what 4,000 steps have room in.
 use Prim.Native.Nat.{ℕ, _*_, _≤_, _<_}
 use mathlib.Core.Path.{_≡_}
 use native.Mathlib.Omega.{arith}
 use mathlib.Core.List.{List, _++_}
 use lib.ListN.{length, length-append}
-use lib.IntN.{ℤ, pos, negsuc}
 use Rattle.basis.proofs.CeilLaws.{ceil-least}
 use Rattle.table.specs.declared.Table.{Table}
-use Rattle.io.specs.Counts.{clamped}
-use Rattle.libc.specs.Io.{Moved}
 use Rattle.bench.specs.Playing.{Roomy}
-
--- A read into n bytes counts at most n.
-pub moved-counts : (n most r : ℕ) (z : ℤ) → Moved n z → r ≡ clamped z most → r ≤ n
-moved-counts n most r (pos k) h e = omega arith
-moved-counts n most r (negsuc k) h e = omega arith
 
 -- What was read into a front counts in the whole.
 pub front-counts : (e d : List ℕ) (n : ℕ) → n ≤ length e → n ≤ length (e ++ d)

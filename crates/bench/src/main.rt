@@ -8,7 +8,6 @@ use scheduler::State;
 use scheduler::fresh;
 use table::Table;
 
-mod input;
 mod output;
 mod play;
 

@@ -24,7 +24,7 @@ use Rattle.state.specs.Methods.{finish}
 use Rattle.state.specs.declared.Progress.{Progress}
 use Rattle.state.specs.declared.State.{State}
 use Rattle.walk.specs.Walk.{heard, runs, visit}
-use Rattle.walk.specs.Step.{step, Rested, Names, Says}
+use Rattle.walk.specs.Step.{step, Rested, Names, Says, ran-by}
 use Rattle.walk.specs.Paid.{pays, payments}
 use Rattle.walk.specs.declared.Answer.the-variants.{Idle}
 use Rattle.scheduler.specs.Taken.{took, taken}
@@ -84,6 +84,11 @@ pub record Demand-2 : Type 0 where
   pub pays-once : (t : Table) (bs : List ℕ) (s : State) (i : ℕ) → pays t bs s i ≤ 1
   pub payments-most : (t : Table) (i : ℕ) (bs : List ℕ) (more : List (List ℕ)) (s : State) → i < t .count → Fits t s
       → ((c : ℕ) → s .clock < c → c ≤ s .clock + length more → releases t i c ≡ false) → payments t i (bs ∷ more) s ≤ thread t i .budget
+  -- A thread with no rest is passed and stays as it is; a count goes up by one exactly if its thread ran.
+  pub rest-stays : (t : Table) (bs : List ℕ) (s : State) (i : ℕ) → progress (release t (t .count) s) i .rest ≡ 0
+      → progress (step t bs s .state) i ≡ progress (release t (t .count) s) i
+  pub step-counts : (t : Table) (bs : List ℕ) (s : State) → t .count ≤ 32 → Fits t s → (i : ℕ) → i < t .count
+      → progress (step t bs s .state) i .ran ≡ progress (release t (t .count) s) i .ran + ran-by i (step t bs s .answer)
   -- The clock goes up by one.
   pub step-clock : (t : Table) (bs : List ℕ) (s : State) → step t bs s .state .clock ≡ s .clock + 1
   -- The demand is W and the sum of what each thread brings; a bound is the smallest length from W to D whose demand is at most that length, and there is none exactly where no length is so.

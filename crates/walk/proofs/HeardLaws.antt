@@ -18,7 +18,7 @@ use Rattle.walk.specs.Step.{advance, step}
 use Rattle.walk.specs.Heard.{heard-by, Alike}
 
 -- A thread with a rest of 0 is passed, whatever its byte.
-visit-passes : (m : List Bool) (b i : ℕ) (s : State) → eqb (progress s i .rest) 0 ≡ true → visit m b i s ≡ walked Idle s
+pub visit-passes : (m : List Bool) (b i : ℕ) (s : State) → eqb (progress s i .rest) 0 ≡ true → visit m b i s ≡ walked Idle s
 unfolding visit pick
 visit-passes m b i s e = rw e
 

@@ -4,3 +4,4 @@ pub mod HeardLaws
 pub mod PaidLaws
 pub mod ReachedLaws
 pub mod ChoiceLaws
+pub mod CountLaws

@@ -4,6 +4,8 @@ use mathlib.Core.Path.{_≡_}
 use mathlib.Core.List.{List}
 use mathlib.Core.Bool.{Bool, true, false}
 use lib.ListN.{getD}
+use lib.Dec.{eqb}
+use Rattle.basis.specs.Tests.{pick}
 use Rattle.table.specs.Mark.{marks-of}
 use Rattle.table.specs.declared.Table.{Table}
 use Rattle.state.specs.State.{progress}
@@ -43,3 +45,9 @@ abbrev pub Says : List Bool → List ℕ → State → Answer → Type 0
 Says m bs s (Ran i) = runs (getD bs i 0) (progress s i) ≡ true
 Says m bs s (IdleFor i) = (getD m i false ≡ true) × (runs (getD bs i 0) (progress s i) ≡ false)
 Says m bs s Idle = Unit {0}
+
+-- How often thread i runs by an answer: once, or not.
+unfoldable pub ran-by : ℕ → Answer → ℕ
+ran-by i (Ran j) = pick (eqb i j) 1 0
+ran-by i (IdleFor j) = 0
+ran-by i Idle = 0

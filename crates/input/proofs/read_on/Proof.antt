@@ -4,10 +4,10 @@ use native.Mathlib.Omega.{arith}
 use mir.Facts.{toZ-ofZ}
 use mir.Syntax.{w64}
 use lib.ListN.{length, take, drop, length-take}
-use Rattle.bench.proofs.InputLaws.{moved-counts}
+use Rattle.input.proofs.InputLaws.{moved-counts}
 use borrow.Author.Needs.{needs}
-use Rattle.bench.proofs.input.read_on.Statement.{statement}
-use Rattle.bench.proofs.input.read_on.Tie as tie
+use Rattle.input.proofs.read_on.Statement.{statement}
+use Rattle.input.proofs.read_on.Tie as tie
 
 sub-read : tie.Need-sub-read
 sub-read c = search needs
