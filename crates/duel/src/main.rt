@@ -71,7 +71,7 @@ fn play_table(tally: &mut Tally, seed: u64) {
 
 fn main() {
     let mut tally = [0u32; 64];
-    for k in 0..1000u32 {
+    for k in 0..2000u32 {
         play_table(&mut tally, part(1, k));
     }
     report::report(&tally);
