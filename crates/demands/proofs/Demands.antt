@@ -13,7 +13,7 @@ use Rattle.table.specs.Legal.{legal, Legal}
 use Rattle.table.specs.Mark.{marking}
 use Rattle.table.specs.declared.Table.{Table}
 use Rattle.table.proofs.LegalLaws.{legal-sound, legal-complete}
-use Rattle.table.proofs.MarkLaws.{marks-exactly}
+use Rattle.table.proofs.MarkLaws.{marks-exactly, mark-sound, mark-complete, marks-at}
 use Rattle.reader.proofs.ReaderLaws.{refused-zero}
 use Rattle.writer.proofs.WriterLaws.{refused-stays}
 use Rattle.writer.proofs.NumberLaws.{write-number-exactly}
@@ -88,6 +88,8 @@ demand-2-holds = record {
   read-write = read-write;
   write-read = write-read;
   marks = marks-exactly;
+  marked-exactly = λ t i. (mark-sound t i, mark-complete t i);
+  marks-at = marks-at;
   call-steps = λ t ok bs e s f l. taken-steps t bs s ok (fits-complete t s f) e l;
   run-steps = calls-steps;
   release-each = release-at;

@@ -44,6 +44,9 @@ pub record Demand-2 : Type 0 where
       → reading (drop at (take next (written b at t))) ≡ accepted t
   -- A thread is marked exactly when some thread of lower priority has a domain that its own may not flow to.
   pub marks : (t : Table) (i : ℕ) → legal t ≡ true → i < t .count → (getD (marks-given t) i false ≡ true) ↔ Leaks t i
+  -- The step goes by the same marks.
+  pub marked-exactly : (t : Table) (i : ℕ) → (marked t i ≡ true) ↔ Leaks t i
+  pub marks-at : (t : Table) (i : ℕ) → i < t .count → getD (marks-of t) i false ≡ marked t i
   -- From every fitting state a call that nothing refuses is the step, and so is each of a whole run of them.
   pub call-steps : (t : Table) → legal t ≡ true → (bs : List ℕ) → length bs ≡ t .count → (s : State) → Fits t s → s .clock < last-clock
       → taken t bs s ≡ took (step t bs s)
@@ -91,7 +94,8 @@ pub record Demand-2 : Type 0 where
       → progress (step t bs s .state) i .ran ≡ progress (release t (t .count) s) i .ran + ran-by i (step t bs s .answer)
   -- The clock goes up by one.
   pub step-clock : (t : Table) (bs : List ℕ) (s : State) → step t bs s .state .clock ≡ s .clock + 1
-  -- The demand is W and the sum of what each thread brings; a bound is the smallest length from W to D whose demand is at most that length, and there is none exactly where no length is so.
+  -- The demand is W and the sum of what each thread brings; a bound is the smallest length from W to D whose demand is at most that
+  -- length, and there is none exactly where no length is so.
   pub demands : (t : Table) (i x n : ℕ) → (demand t i x ≡ thread t i .budget + n) ↔ Sum-of (Demands t i x) (t .count) n
   pub bounds : (t : Table) (i x : ℕ) → (bound t i ≡ found x) ↔ Is-bound t i x
   pub no-bounds : (t : Table) (i : ℕ) → (bound t i ≡ nothing) ↔ No-bound t i

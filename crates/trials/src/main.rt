@@ -1,5 +1,6 @@
 // Random tables through admission, held against the plain search of crate rival_bounds over every length. Prints how many of each
 // kind there were, and last how often the two disagreed.
+mod busy;
 mod count;
 
 use count::Tally;
@@ -8,9 +9,18 @@ use dice::seldom;
 use table::Table;
 use table::Thread;
 
+// Every other table is a busy one.
+fn table(seed: u64) -> Table {
+    let t = deal::table(seed);
+    if seldom(seed, 5, 2) {
+        return busy::table(part(seed, 6), t);
+    }
+    t
+}
+
 // Every eighth table is damaged, and few of the long ones are searched.
 fn play(y: Tally, seed: u64) -> Tally {
-    let t = deal::table(seed);
+    let t = table(seed);
     if seldom(seed, 1, 8) {
         return count::table(y, spoil::table(part(seed, 3), t, dice::below32(seed, 2, 8)));
     }
@@ -66,7 +76,7 @@ fn report(y: Tally) {
 
 fn main() {
     let mut y = count::none_yet();
-    for n in 0..4000u32 {
+    for n in 0..5200u32 {
         y = play(y, part(2, n));
     }
     report(y);

@@ -171,7 +171,7 @@ module _ (m : List Bool) (b i : ℕ) (s : State) (l : i < length (s .threads)) w
   unfolding heard finish
   heard-rest = both-ways (λ (x : State). progress x i .rest ≡ progress s i .rest) _ _ _ (ap (λ (q : Progress). q .rest) (put-same s i _ l)) refl
 
-  heard-long : length (heard b i s .threads) ≡ length (s .threads)
+  pub heard-long : length (heard b i s .threads) ≡ length (s .threads)
   unfolding heard finish
   heard-long = both-ways (λ (x : State). length (x .threads) ≡ length (s .threads)) _ _ _ (length-set (s .threads) i _) refl
 

@@ -28,7 +28,7 @@ use Rattle.walk.specs.declared.Walked.{Walked}
 use Rattle.walk.proofs.WalkLaws.{visit-keeps, walk-on, walk-stop}
 use Rattle.walk.proofs.HeardLaws.{visit-passes}
 use Rattle.walk.proofs.ReachedLaws.{reached-pays}
-use Rattle.walk.proofs.ChoiceLaws.{visit-others}
+use Rattle.walk.proofs.ChoiceLaws.{visit-others, heard-long}
 
 put-ran : (s : State) (i : ℕ) (p : Progress) → i < length (s .threads) → progress (put s i p) i .ran ≡ p .ran
 put-ran s i p l = ap (λ (q : Progress). q .ran) (getD-set-same (s .threads) i p no-progress l)
@@ -46,19 +46,15 @@ module _ (m : List Bool) (b i : ℕ) (s : State) (l : i < length (s .threads)) w
   unfolding heard finish
   heard-ran = both-ways (λ (x : State). progress x i .ran ≡ progress s i .ran) _ _ _ (put-ran s i _ l) refl
 
-  heard-long : length (heard b i s .threads) ≡ length (s .threads)
-  unfolding heard finish
-  heard-long = both-ways (λ (x : State). length (x .threads) ≡ length (s .threads)) _ _ _ (length-set (s .threads) i _) refl
-
   paid-ran : progress (pay (heard b i s) i) i .ran ≡ progress s i .ran
   unfolding pay
-  paid-ran = put-ran (heard b i s) i _ (rw heard-long l) ∙ heard-ran
+  paid-ran = put-ran (heard b i s) i _ (rw (heard-long m b i s l) l) ∙ heard-ran
 
   counted-ran : progress (count (pay (heard b i s) i) i) i .ran ≡ progress s i .ran + 1
   unfolding count pay
   counted-ran =
       let p : Progress = paid (progress (heard b i s) i) in
-      put-ran (put (heard b i s) i p) i _ (rw (length-set (heard b i s .threads) i p, heard-long) l) ∙ ap (λ n. n + 1) paid-ran
+      put-ran (put (heard b i s) i p) i _ (rw (length-set (heard b i s .threads) i p, heard-long m b i s l) l) ∙ ap (λ n. n + 1) paid-ran
 
   visit-own : progress (visit m b i s .state) i .ran ≡ progress s i .ran + ran-by i (visit m b i s .answer)
   unfolding visit ran-by

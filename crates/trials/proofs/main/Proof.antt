@@ -1,4 +1,4 @@
--- `trials::main` is safe and ends: n counts up to 4000.
+-- `trials::main` is safe and ends: n counts up to 5200.
 use Prim.Native.Nat.{_-_}
 use borrow.Author.Needs.{needs}
 use Rattle.trials.proofs.main.Statement.{statement}
@@ -8,7 +8,7 @@ abbrev Inv-loop : tie.InvT-loop
 Inv-loop y₀ n₀ t4 t5 y n = Unit {0}
 
 abbrev μ-loop : tie.MeasureT-loop
-μ-loop y₀ n₀ t4 t5 y n = 4000 - n
+μ-loop y₀ n₀ t4 t5 y n = 5200 - n
 
 none-yet-requires : tie.Need-none-yet-requires Inv-loop μ-loop
 none-yet-requires c κs = search needs
