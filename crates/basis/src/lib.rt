@@ -2,12 +2,16 @@
 ghost use mathlib.Core.Path.{_≡_};
 ghost use Rattle.basis.specs.Ceil.{ceil};
 
-// a / b rounded up; 0 where b is 0.
+// a / b rounded up: the quotient, and one more when a remainder is left; 0 where b is 0.
 pub fn rounded_up(a: u32, b: u32) -> u64
     ensures { λ r. ⌜ r ≡ ceil a b ⌝ }
 {
     if b == 0 {
         return 0;
     }
-    (a as u64 + (b as u64 - 1)) / b as u64
+    let quotient = (a / b) as u64;
+    if a % b == 0 {
+        return quotient;
+    }
+    quotient + 1
 }
