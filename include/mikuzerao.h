@@ -11,11 +11,13 @@ extern "C" {
 #endif
 
 #define MIKUZERAO_REFUSED 100000u
+#define MIKUZERAO_NONE 255u
 
 /* The reader's verdict: 0 where the bytes are a legal table, else the refusal, 1 to 10. */
 uint32_t mikuzerao_verdict(const uint8_t *bytes, size_t length);
 
-/* A thread's leak mark: 1 where it is marked, 0 where it is not, or a refusal. */
+/* Whom a thread's leak mark protects: the first thread in table order that has a lower priority and may not learn of it, 0 to 31;
+   MIKUZERAO_NONE where it is not marked; or a refusal. */
 uint32_t mikuzerao_mark(const uint8_t *bytes, size_t length, uint32_t thread);
 
 /* A thread's bound in steps, from its budget to its deadline: 0 where it has none, or a refusal. */

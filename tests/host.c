@@ -59,7 +59,7 @@ int main(void) {
     size_t n;
     expect("E", mikuzerao_verdict(e, sizeof e), 0);
     expect("E, mark of 0", mikuzerao_mark(e, sizeof e, 0), 1);
-    expect("E, mark of 1", mikuzerao_mark(e, sizeof e, 1), 0);
+    expect("E, mark of 1", mikuzerao_mark(e, sizeof e, 1), MIKUZERAO_NONE);
     expect("E, bound of 0", mikuzerao_bound(e, sizeof e, 0), 4);
     expect("E, bound of 1", mikuzerao_bound(e, sizeof e, 1), 7);
     static const uint32_t none[] = {2, 31, 32, 255, 256, 257, 65536, 4294967295u};
@@ -75,7 +75,10 @@ int main(void) {
     expect("E with budget 7, verdict", mikuzerao_verdict(b, sizeof e), 0);
     memcpy(b, e, sizeof e);
     b[4] = 3;
-    expect("E with row 1 as 3, mark of 0", mikuzerao_mark(b, sizeof e, 0), 0);
+    expect("E with row 1 as 3, mark of 0", mikuzerao_mark(b, sizeof e, 0), MIKUZERAO_NONE);
+    static const uint8_t other[] = {1, 2, 2, 3, 2, 0, 20, 10, 0, 3, 10, 0, 1, 30, 10, 0, 4, 10, 2};
+    expect("E with its threads exchanged, mark of 0", mikuzerao_mark(other, sizeof other, 0), MIKUZERAO_NONE);
+    expect("E with its threads exchanged, mark of 1", mikuzerao_mark(other, sizeof other, 1), 0);
 
     refused("no bytes", NULL, 0, 1);
     for (n = 0; n < sizeof e; n++) refused("E cut short", e, n, 1);
@@ -103,7 +106,7 @@ int main(void) {
     n = longest(b);
     expect("the longest table's bytes", (uint32_t)n, 627);
     expect("the longest table", mikuzerao_verdict(b, n), 0);
-    expect("the longest table, mark of 31", mikuzerao_mark(b, n, 31), 0);
+    expect("the longest table, mark of 31", mikuzerao_mark(b, n, 31), MIKUZERAO_NONE);
     expect("the longest table, mark of 32", mikuzerao_mark(b, n, 32), MIKUZERAO_REFUSED + 15);
     expect("the longest table, bound of 0", mikuzerao_bound(b, n, 0), 60000);
     expect("the longest table, bound of 1", mikuzerao_bound(b, n, 1), 0);

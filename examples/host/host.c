@@ -31,7 +31,8 @@ int main(int argc, char **argv) {
     }
     for (uint32_t i = 0; (mark = mikuzerao_mark(bytes, length, i)) < MIKUZERAO_REFUSED; i++) {
         uint32_t bound = mikuzerao_bound(bytes, length, i);
-        printf("thread %u: %s, ", (unsigned)i, mark ? "marked" : "not marked");
+        if (mark == MIKUZERAO_NONE) printf("thread %u: not marked, ", (unsigned)i);
+        else printf("thread %u: marked for thread %u, ", (unsigned)i, (unsigned)mark);
         if (bound) printf("bound %u\n", (unsigned)bound);
         else printf("no bound\n");
     }

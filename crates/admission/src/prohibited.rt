@@ -8,12 +8,12 @@ use table::Table;
 use table::Thread;
 use table::mark_all;
 
-// What thread h, with its mark, brings to own's prohibition time.
-fn stretch(own: Thread, mark: bool, h: Thread) -> u64
+// What thread h, marked or not, brings to own's prohibition time.
+fn stretch(own: Thread, marked: bool, h: Thread) -> u64
     requires { ⌜ (1 ≤ own .period) × (1 ≤ h .period) ⌝ }
-    ensures { λ r. ⌜ r ≡ the-stretch own mark h ⌝ }
+    ensures { λ r. ⌜ r ≡ the-stretch own marked h ⌝ }
 {
-    if !mark {
+    if !marked {
         return 0;
     }
     if h.priority <= own.priority {
@@ -33,7 +33,7 @@ pub fn prohibition_time(t: Table, l: u8) -> u64
     for h in 0..t.count {
         let mark = marks[h as usize];
         let upper = t.threads[h as usize];
-        sum += stretch(own, mark, upper);
+        sum += stretch(own, mark.set, upper);
     }
     sum
 }

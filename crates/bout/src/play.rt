@@ -14,6 +14,7 @@ use scheduler::Answer;
 use scheduler::Outcome;
 use scheduler::State;
 use scheduler::Stepped;
+use table::Mark;
 use table::Marking;
 use table::Table;
 use tally::WRONG;
@@ -77,13 +78,15 @@ pub fn some_length(seed: u64, count: u8) -> u8 {
 }
 
 // How many of the marks are set, and 100 for each place where the two differ.
-fn compared(a: [bool; 32], b: [bool; 32]) -> u32 {
+fn compared(a: [Mark; 32], b: [Mark; 32]) -> u32 {
     let mut sum = 0u32;
     for i in 0..32usize {
-        if a[i] {
+        let ours = a[i];
+        let theirs = b[i];
+        if ours.set {
             sum = std::num::wrapping_add_u32(sum, 1);
         }
-        if a[i] != b[i] {
+        if (ours.set != theirs.set) | (ours.thread != theirs.thread) {
             sum = std::num::wrapping_add_u32(sum, 100);
         }
     }

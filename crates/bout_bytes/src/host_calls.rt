@@ -23,7 +23,8 @@ fn refusal(r: rival_bytes::Reading, thread: u32) -> u32 {
 
 fn mark_of(t: Table, thread: u32) -> u32 {
     let marks = rival_table::marks(t);
-    if marks[thread as usize % 32] { 1 } else { 0 }
+    let m = marks[thread as usize % 32];
+    if m.set { m.thread as u32 } else { 255 }
 }
 
 // The kind of an answer: of a refusal, or the one that is handed in.
@@ -47,7 +48,7 @@ pub fn mark(r: rival_bytes::Reading, bytes: &[u8], thread: u32) -> u32 {
     if host::mikuzerao_mark(bytes, thread) != number {
         return WRONG;
     }
-    kind_of(number, if number == 1 { MARKED } else { UNMARKED })
+    kind_of(number, if number == 255 { UNMARKED } else { MARKED })
 }
 
 // The plain search of a table with a long period takes long, so only some are asked for.

@@ -13,7 +13,7 @@ use Rattle.table.specs.Legal.{legal, Legal}
 use Rattle.table.specs.Mark.{marking}
 use Rattle.table.specs.declared.Table.{Table}
 use Rattle.table.proofs.LegalLaws.{legal-sound, legal-complete}
-use Rattle.table.proofs.MarkLaws.{marks-exactly, mark-sound, mark-complete, marks-at}
+use Rattle.table.proofs.MarkLaws.{marks-exactly, marks-name, mark-sound, mark-complete, set-exactly}
 use Rattle.reader.proofs.ReaderLaws.{refused-zero}
 use Rattle.writer.proofs.WriterLaws.{refused-stays}
 use Rattle.writer.proofs.NumberLaws.{write-number-exactly}
@@ -88,8 +88,9 @@ demand-2-holds = record {
   read-write = read-write;
   write-read = write-read;
   marks = marks-exactly;
+  marks-name = marks-name;
   marked-exactly = λ t i. (mark-sound t i, mark-complete t i);
-  marks-at = marks-at;
+  set-exactly = set-exactly;
   call-steps = λ t ok bs e s f l. taken-steps t bs s ok (fits-complete t s f) e l;
   run-steps = calls-steps;
   release-each = release-at;

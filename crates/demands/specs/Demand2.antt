@@ -5,15 +5,16 @@ use Prim.Native.Nat.{ℕ, _+_, _-_, _%_, _≤_, _<_}
 use mathlib.Core.Path.{_≡_}
 use mathlib.Core.List.{List, [], _∷_, map}
 use mathlib.Core.Logic.{_≢_, _↔_}
-use mathlib.Core.Bool.{Bool, true, false}
+use mathlib.Core.Bool.{true, false}
 use lib.ListN.{length, getD, take, drop}
 use Rattle.basis.specs.Search.{found, nothing}
 use Rattle.basis.specs.Told.{answered}
 use Rattle.table.specs.Threads.{thread}
 use Rattle.table.specs.Legal.{legal, Sized, Legal}
-use Rattle.table.specs.Mark.{Leaks, marked, marks-of, marks-given}
+use Rattle.table.specs.Mark.{Leaks, Protects, mark, marked, marks-of, marks-given, is-set}
 use Rattle.table.specs.declared.Table.{Table}
 use Rattle.table.specs.declared.Thread.{Thread}
+use Rattle.table.specs.declared.Mark.{Mark}
 use Rattle.numeral.specs.NumberRules.{Bytes}
 use Rattle.reader.specs.Reader.{accepted, reading}
 use Rattle.writer.specs.Format.{bytes}
@@ -43,10 +44,12 @@ pub record Demand-2 : Type 0 where
   pub write-read : (t : Table) → Sized t → (b : List ℕ) (at next : ℕ) → writing b at t ≡ answered (next ∷ [])
       → reading (drop at (take next (written b at t))) ≡ accepted t
   -- A thread is marked exactly when some thread of lower priority has a domain that its own may not flow to.
-  pub marks : (t : Table) (i : ℕ) → legal t ≡ true → i < t .count → (getD (marks-given t) i false ≡ true) ↔ Leaks t i
+  pub marks : (t : Table) (i : ℕ) → legal t ≡ true → i < t .count → (is-set (marks-given t) i ≡ true) ↔ Leaks t i
+  -- Its mark names the first such thread in table order.
+  pub marks-name : (t : Table) (i j : ℕ) → legal t ≡ true → i < t .count → (getD (marks-given t) i (mark nothing) ≡ mark (found j)) ↔ Protects t i j
   -- The step goes by the same marks.
   pub marked-exactly : (t : Table) (i : ℕ) → (marked t i ≡ true) ↔ Leaks t i
-  pub marks-at : (t : Table) (i : ℕ) → i < t .count → getD (marks-of t) i false ≡ marked t i
+  pub set-exactly : (t : Table) (i : ℕ) → i < t .count → is-set (marks-of t) i ≡ marked t i
   -- From every fitting state a call that nothing refuses is the step, and so is each of a whole run of them.
   pub call-steps : (t : Table) → legal t ≡ true → (bs : List ℕ) → length bs ≡ t .count → (s : State) → Fits t s → s .clock < last-clock
       → taken t bs s ≡ took (step t bs s)
@@ -66,7 +69,7 @@ pub record Demand-2 : Type 0 where
   -- A thread runs by the byte 1, unless its finish mark is set; 2 sets the mark; every other byte acts as 0.
   pub runs-exactly : (b : ℕ) (p : Progress) → (runs b p ≡ true) ↔ ((b ≡ 1) × (p .finished ≡ false))
   pub two-finishes : (i : ℕ) (s : State) → heard 2 i s ≡ finish s i
-  pub strange-waits : (m : List Bool) (b i : ℕ) (s : State) → b ≢ 1 → b ≢ 2 → visit m b i s ≡ visit m 0 i s
+  pub strange-waits : (m : List Mark) (b i : ℕ) (s : State) → b ≢ 1 → b ≢ 2 → visit m b i s ≡ visit m 0 i s
   -- The thread chosen had a rest, and it runs, or is marked and waits; above it no thread with a rest runs or is marked.
   pub chosen-rested : (t : Table) (bs : List ℕ) (s : State) → Rested (step t bs s .answer) (release t (t .count) s)
   pub chosen-says : (t : Table) (bs : List ℕ) (s : State) → Says (marks-of t) bs (release t (t .count) s) (step t bs s .answer)

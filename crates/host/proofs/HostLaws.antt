@@ -11,11 +11,12 @@ use borrow.Author.Tests.{eq-eqb, ne-eqb, lt-ltb, le-ltb, eqb-true, eqb-false, lt
 use Rattle.basis.specs.Tests.{pick}
 use Rattle.basis.specs.Search.{Sought, nothing, found}
 use Rattle.basis.proofs.TestLaws.{by-test, either}
+use Rattle.table.specs.declared.Mark.{Mark}
 use Rattle.table.specs.declared.Table.{Table}
 use Rattle.table.specs.Legal.{legal, Legal}
-use Rattle.table.specs.Mark.{Leaks, marks-given}
-use Rattle.table.proofs.LegalLaws.{legal-complete}
-use Rattle.table.proofs.MarkLaws.{marks-exactly}
+use Rattle.table.specs.Mark.{Leaks, Protects, protects, mark, marks-given}
+use Rattle.table.proofs.LegalLaws.{legal-complete, legal-small}
+use Rattle.table.proofs.MarkLaws.{protects-given, protects-only, protects-none, marks-given-at, marks-past, marks-refused}
 use Rattle.numeral.specs.NumberRules.{Bytes}
 use Rattle.reader.specs.Reader.{accepted, reading}
 use Rattle.reader.proofs.ReaderLaws.{accepted-plain}
@@ -64,9 +65,31 @@ module _ (f : Table → ℕ → ℕ) (s : List ℕ) (i : ℕ) (small : verdict s
     λ r. omega (arith, refused-only (r .refuses)),
   )
 
-mark-small : (t : Table) (i : ℕ) → mark-number t i < 100000
+-- A mark as a number: the thread, or 255.
+abbrev mark-told : Sought ℕ → ℕ
+mark-told nothing = 255
+mark-told (found j) = j
+
+number-told : (s : Sought ℕ) → pick (mark s .set) (mark s .thread) 255 ≡ mark-told s
+unfolding pick
+number-told nothing = refl
+number-told (found j) = refl
+
+pub number-by : (t : Table) (i : ℕ) (s : Sought ℕ) → getD (marks-given t) i (mark nothing) ≡ mark s → mark-number t i ≡ mark-told s
 unfolding mark-number
-mark-small t i = either (λ (n : ℕ). n < 100000) (getD (marks-given t) i false) (λ e. omega arith) (λ e. omega arith)
+number-by t i s e = ap (λ (m : Mark). pick (m .set) (m .thread) 255) e ∙ number-told s
+
+told-small : (t : Table) (i : ℕ) → t .count ≤ 32 → (s : Sought ℕ) → protects t i ≡ s → mark-told s < 100000
+told-small t i h nothing e = omega arith
+told-small t i h (found j) e = omega (arith, protects-given t i j e .in-table)
+
+mark-small : (t : Table) (i : ℕ) → mark-number t i < 100000
+mark-small t i =
+    by-test (legal t)
+    (λ a. by-test (ltb i (t .count))
+    (λ b. rw (number-by t i (protects t i) (marks-given-at t i a (ltb-true _ _ b))) (told-small t i (legal-small t a .1) (protects t i) refl))
+    (λ b. rw (number-by t i nothing (marks-past t i (ltb-false _ _ b))) (omega arith)))
+    (λ a. rw (number-by t i nothing (marks-refused t i a)) (omega arith))
 
 -- A mark answers 100,000 and more exactly on a refusal, and then says which.
 pub mark-refused-exactly : (s : List ℕ) (i n : ℕ) → (thread-mark s i ≡ refusal n) ↔ Refuses s i n
@@ -140,17 +163,16 @@ module _ (s : List ℕ) (b : Bytes s) (i : ℕ) where
         ∙ ap or-zero (bound-none (reading s .table) i (w .none)),
   )
 
-one-of : _≡_ {A = ℕ} (pick true 1 0) 1
-unfolding pick
-one-of = refl
+named : (t : Table) (i j : ℕ) (s : Sought ℕ) → protects t i ≡ s → j < 32 → mark-told s ≡ j → protects t i ≡ found j
+named t i j nothing e h q = absurd (omega arith)
+named t i j (found k) e h q = e ∙ ap found q
 
-set-of : (m : Bool) → _≡_ {A = ℕ} (pick m 1 0) 1 → m ≡ true
-unfolding pick
-set-of true q = refl
-set-of false q = absurd (omega arith)
+unnamed : (t : Table) (i : ℕ) (s : Sought ℕ) → t .count ≤ 32 → protects t i ≡ s → mark-told s ≡ 255 → protects t i ≡ nothing
+unnamed t i nothing h e q = e
+unnamed t i (found k) h e q = absurd (omega (arith, protects-given t i k e .in-table))
 
--- Of a table that the bytes hold: a thread's mark is 1 exactly where it leaks, its bound is the smallest length that holds its
--- demand, and 0 says that there is none.
+-- Of a table that the bytes hold: a thread's mark is the thread that it protects, and 255 exactly where it does not leak; its bound is
+-- the smallest length that holds its demand, and 0 says that there is none.
 module _ (s : List ℕ) (b : Bytes s) (t : Table) (e : reading s ≡ accepted t) (i : ℕ) (h : i < t .count) where
   lawful : legal t ≡ true
   lawful = legal-complete t (accepted-exactly s b t .0 e .0)
@@ -159,11 +181,20 @@ module _ (s : List ℕ) (b : Bytes s) (t : Table) (e : reading s ≡ accepted t)
   unfolding verdict
   about f = answering f s i (rw (verdict, e)) (rw e h) ∙ rw e
 
-  pub mark-exactly : (thread-mark s i ≡ 1) ↔ Leaks t i
-  unfolding thread-mark mark-number
-  mark-exactly = (
-    λ q. marks-exactly t i lawful h .0 (set-of _ (sym (about mark-number) ∙ q)),
-    λ l. about mark-number ∙ rw (marks-exactly t i lawful h .1 l) one-of,
+  mark-by : thread-mark s i ≡ mark-told (protects t i)
+  unfolding thread-mark
+  mark-by = about mark-number ∙ number-by t i (protects t i) (marks-given-at t i lawful h)
+
+  pub mark-exactly : (j : ℕ) → j < 32 → (thread-mark s i ≡ j) ↔ Protects t i j
+  mark-exactly j l = (
+    λ q. protects-given t i j (named t i j (protects t i) refl l (sym mark-by ∙ q)),
+    λ p. mark-by ∙ ap mark-told (protects-only t i j p),
+  )
+
+  pub mark-none-exactly : (thread-mark s i ≡ 255) ↔ (Leaks t i → ⊥)
+  mark-none-exactly = (
+    λ q. protects-none t i .0 (unnamed t i (protects t i) (legal-small t lawful .1) refl (sym mark-by ∙ q)),
+    λ n. mark-by ∙ ap mark-told (protects-none t i .1 n),
   )
 
   pub bound-found : (x : ℕ) → Is-bound t i x → thread-bound s i ≡ x

@@ -3,12 +3,12 @@ use Prim.Native.Nat.{ℕ, _+_, _≤_, _<_}
 use mathlib.Core.Path.{_≡_}
 use mathlib.Core.Logic.{_≢_}
 use mathlib.Core.List.{List, [], _∷_}
-use mathlib.Core.Bool.{false}
 use lib.ListN.{getD}
 use lib.Dec.{eqb, ltb}
 use Rattle.basis.specs.Tests.{pick}
 use Rattle.basis.specs.Told.{Told}
-use Rattle.table.specs.Mark.{marks-given}
+use Rattle.basis.specs.Search.{nothing}
+use Rattle.table.specs.Mark.{mark, is-set, marks-given}
 use Rattle.table.specs.declared.Table.{Table}
 use Rattle.reader.specs.Reader.{reading}
 use Rattle.admission.specs.Bounded.{bounding, No-bound}
@@ -26,9 +26,9 @@ unfoldable pub of-thread : (Table → ℕ → ℕ) → List ℕ → ℕ → ℕ
 of-thread f s i =
     pick (eqb (verdict s) 0) (pick (ltb i (reading s .table .count)) (f (reading s .table) i) (refusal 15)) (refusal (verdict s))
 
--- 1 for a marked thread, and 0.
+-- The thread that the mark of thread i protects, 255 for none.
 unfoldable pub mark-number : Table → ℕ → ℕ
-mark-number t i = pick (getD (marks-given t) i false) 1 0
+mark-number t i = pick (is-set (marks-given t) i) (getD (marks-given t) i (mark nothing) .thread) 255
 
 -- The one value of an answer, 0 for none, or the refusal.
 abbrev pub value-or-0 : List ℕ → ℕ

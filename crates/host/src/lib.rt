@@ -33,19 +33,20 @@ fn refused(why: u32) -> u32
     100000 + why
 }
 
-// 1 for a marked thread, and 0; a place past the last is not marked.
+// The thread that the mark protects, 255 for none; a place past the last is not marked.
 fn mark_number(t: Table, i: u8) -> u32
     ensures { λ r. ⌜ r ≡ mark-number t i ⌝ }
 {
     if 32 <= i {
-        return 0;
+        return 255;
     }
     let m = table::marks(t);
     let marks = m.marks;
-    if marks[i as usize] {
-        return 1;
+    let mark = marks[i as usize];
+    if mark.set {
+        return mark.thread as u32;
     }
-    0
+    255
 }
 
 // The bound, 0 for none, or the refusal.
@@ -70,7 +71,7 @@ pub extern "C" fn mikuzerao_verdict(bytes: &[u8]) -> u32
     number_of(v)
 }
 
-// A thread's mark, 0 or 1; 100,000 and the number on a refusal: the reader's, then 15.
+// The thread that a thread's mark protects, 255 for none; 100,000 and the number on a refusal: the reader's, then 15.
 #[no_mangle]
 pub extern "C" fn mikuzerao_mark(bytes: &[u8], thread: u32) -> u32
     ensures { λ r. ⌜ (r ≡ thread-mark (now (bytes .entry)) thread) × Bytes (now (bytes .entry)) ⌝ }

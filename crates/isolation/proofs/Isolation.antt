@@ -4,7 +4,7 @@ use Prim.Native.Nat.{ℕ, _+_, _<_}
 use mathlib.Core.Logic.{_≢_}
 use mathlib.Core.Path.{_≡_, refl, sym, ap, ap₂, _∙_}
 use mathlib.Core.List.{List, [], _∷_, map}
-use mathlib.Core.Bool.{Bool, true}
+use mathlib.Core.Bool.{true}
 use lib.ListN.{length}
 use lib.Dec.{eqb, ltb}
 use borrow.Author.Tests.{lt-ltb, ne-eqb}
@@ -15,8 +15,9 @@ use Rattle.basis.proofs.TestLaws.{both}
 use Rattle.table.specs.Legal.{legal, Legal, Sized}
 use Rattle.table.specs.Mark.{marks-of}
 use Rattle.table.specs.declared.Table.{Table}
-use Rattle.table.proofs.MarkLaws.{marks-at}
+use Rattle.table.proofs.MarkLaws.{set-exactly}
 use Rattle.table.proofs.LegalLaws.{legal-sound}
+use Rattle.table.specs.declared.Mark.{Mark}
 use Rattle.state.specs.State.{fresh, last-clock, Fits}
 use Rattle.state.specs.Methods.{tick}
 use Rattle.state.specs.declared.State.{State}
@@ -47,7 +48,7 @@ telling-refused t d why h = rw (ne-eqb _ _ h)
 
 module _ (t : Table) (l : Legal t) (d : ℕ) (dd : d < t .domains) where
   -- A step that walks over any list of threads by falling priority.
-  pub advance-alike : (m : List Bool) → Marks t m → (is : List ℕ) → Falling t is → Below (t .count) is
+  pub advance-alike : (m : List Mark) → Marks t m → (is : List ℕ) → Falling t is → Below (t .count) is
       → (bs cs : List ℕ) → Same-step t d bs cs → (s r : State) → Alike t d s r → Agree t d (advance t m is bs s) (advance t m is cs r)
   unfolding advance ticked tick
   advance-alike m marks is f c bs cs h s r a =
@@ -59,7 +60,7 @@ module _ (t : Table) (l : Legal t) (d : ℕ) (dd : d < t .domains) where
 
   pub step-alike : (bs cs : List ℕ) → Same-step t d bs cs → (s r : State) → Alike t d s r → Agree t d (step t bs s) (step t cs r)
   unfolding step
-  step-alike bs cs h s r a = advance-alike (marks-of t) (marks-at t) (order t) (order-falls t) (order-below t) bs cs h s r a
+  step-alike bs cs h s r a = advance-alike (marks-of t) (set-exactly t) (order t) (order-falls t) (order-below t) bs cs h s r a
 
 module _ (t : Table) (ok : legal t ≡ true) where
   module _ (d : ℕ) (dd : d < t .domains) where

@@ -11,9 +11,10 @@ use Rattle.basis.specs.Tests.{pick}
 use Rattle.basis.specs.Told.{answered}
 use Rattle.basis.proofs.TestLaws.{either, both, both-ways, refuted, fails}
 use Rattle.table.specs.Threads.{thread}
-use Rattle.table.specs.Mark.{marked}
+use Rattle.table.specs.Mark.{marked, is-set}
 use Rattle.table.specs.Legal.{Legal}
 use Rattle.table.specs.declared.Table.{Table}
+use Rattle.table.specs.declared.Mark.{Mark}
 use Rattle.state.specs.State.{progress}
 use Rattle.state.specs.Methods.{done, counted, paid, pay, finish, count}
 use Rattle.state.specs.declared.Progress.{Progress}
@@ -46,8 +47,8 @@ record Quiet (t : Table) (d : ℕ) (s : State) (w : Walked) : Type 0 where
   alike : Alike t d s (w .state)
 
 -- The marks m are the table's.
-abbrev pub Marks : Table → List Bool → Type 0
-Marks t m = (i : ℕ) → i < t .count → getD m i false ≡ marked t i
+abbrev pub Marks : Table → List Mark → Type 0
+Marks t m = (i : ℕ) → i < t .count → is-set m i ≡ marked t i
 
 module _ (t : Table) (d : ℕ) where
   quiet-still : (s : State) → Quiet t d s (record { answer = Idle; state = s })
@@ -68,7 +69,7 @@ module _ (t : Table) (d : ℕ) where
   quiet-heard b i s v = either (Alike t d s) (eqb b 2) (λ _. alike-kept t d done done-keeps s i v) (λ _. alike-refl t d s)
 
   -- Reached, it pays whether it runs or waits: d is shown a gap, and the state is alike to the one in which it has just paid.
-  hidden-pays : (m : List Bool) (b i : ℕ) (s : State) → visible t d i ≡ false → Quiet t d (pay s i) (decided m b i s)
+  hidden-pays : (m : List Mark) (b i : ℕ) (s : State) → visible t d i ≡ false → Quiet t d (pay s i) (decided m b i s)
   unfolding count
   hidden-pays m b i s v =
       reached-pays m b i s (Quiet t d (pay s i))
@@ -80,14 +81,14 @@ module _ (t : Table) (d : ℕ) where
   abbrev Hidden : ℕ → Type 0
   Hidden i = (visible t d i ≡ false) × (guards t d i ≡ false)
 
-  hidden-visit : (m : List Bool) (b i : ℕ) (s : State) → Hidden i → Quiet t d s (visit m b i s)
+  hidden-visit : (m : List Mark) (b i : ℕ) (s : State) → Hidden i → Quiet t d s (visit m b i s)
   unfolding visit pay
   hidden-visit m b i s h =
       either (Quiet t d s) (eqb (progress s i .rest) 0) (λ _. quiet-still s)
       (λ _. quiet-later (quiet-heard b i s (h .0))
       (quiet-later (alike-hidden t d (heard b i s) i _ (h .0) (h .1)) (hidden-pays m b i (heard b i s) (h .0))))
 
-  hidden-walk : (m : List Bool) (bs is : List ℕ) (s : State) → All Hidden is → Quiet t d s (walk m bs is s)
+  hidden-walk : (m : List Mark) (bs is : List ℕ) (s : State) → All Hidden is → Quiet t d s (walk m bs is s)
   unfolding walk
   hidden-walk m bs [] s h = quiet-still s
   hidden-walk m bs (i ∷ is) s h =
@@ -105,17 +106,17 @@ module _ (t : Table) (d : ℕ) where
   visible-heard b i s r a =
       both (Alike t d) (eqb b 2) _ refl (λ _. alike-change t d done (keeps-fair done done-keeps) s r i a) (λ _. a)
 
-  visible-decided : (m : List Bool) (b i : ℕ) (s r : State) → visible t d i ≡ true → Alike t d s r
+  visible-decided : (m : List Mark) (b i : ℕ) (s r : State) → visible t d i ≡ true → Alike t d s r
       → Abreast t d (decided m b i s) (decided m b i r)
   unfolding decided count pay
   visible-decided m b i s r v a =
       let p : Alike t d (pay s i) (pay r i) = alike-change t d paid paid-fair s r i a in
       both (Abreast t d) (runs b (progress s i)) _ (ap (runs b) (a .common i .seen v))
       (λ _. record { agree = record { same = refl; alike = alike-change t d counted (keeps-fair counted counted-keeps) _ _ i p }; ends = refl })
-      (λ _. both (Abreast t d) (getD m i false) _ refl
+      (λ _. both (Abreast t d) (is-set m i) _ refl
       (λ _. record { agree = record { same = refl; alike = search }; ends = refl }) (λ _. abreast-still _ _ p))
 
-  visible-visit : (m : List Bool) (b i : ℕ) (s r : State) → visible t d i ≡ true → Alike t d s r → Abreast t d (visit m b i s) (visit m b i r)
+  visible-visit : (m : List Mark) (b i : ℕ) (s r : State) → visible t d i ≡ true → Alike t d s r → Abreast t d (visit m b i s) (visit m b i r)
   unfolding visit
   visible-visit m b i s r v a =
       both (Abreast t d) (eqb (progress s i .rest) 0) _ (ap (λ (p : Progress). eqb (p .rest) 0) (a .common i .seen v))
@@ -123,7 +124,7 @@ module _ (t : Table) (d : ℕ) where
       (λ _. visible-decided m b i _ _ v (visible-heard b i s r a))
 
   -- At a marked thread, both walks pass it or both end there, whatever it says.
-  marked-visit : (m : List Bool) (b c i : ℕ) (s r : State) → visible t d i ≡ false → guards t d i ≡ true → getD m i false ≡ true → Alike t d s r
+  marked-visit : (m : List Mark) (b c i : ℕ) (s r : State) → visible t d i ≡ false → guards t d i ≡ true → is-set m i ≡ true → Alike t d s r
       → Abreast t d (visit m b i s) (visit m c i r)
   unfolding visit pay
   marked-visit m b c i s r v g e a =
@@ -150,7 +151,7 @@ module _ (t : Table) (d : ℕ) where
   all-hidden i h [] f c = tt
   all-hidden i h (k ∷ is) f c = (below-hidden i h k (f .0) (c .0), all-hidden i h is (f .1) (c .1))
 
-  module _ (l : Legal t) (dd : d < t .domains) (m : List Bool) (marks : Marks t m) where
+  module _ (l : Legal t) (dd : d < t .domains) (m : List Mark) (marks : Marks t m) where
     -- Two walks over is, from any states that are alike.
     abbrev Onward : List ℕ → List ℕ → List ℕ → Type 0
     Onward bs cs is = (s r : State) → Alike t d s r → Agree t d (walk m bs is s) (walk m cs is r)

@@ -1,14 +1,14 @@
 -- A statement of document 01: what the definitions compute, and what was found by hand.
-use Prim.Native.Nat.{ℕ}
+use Prim.Native.Nat.{ℕ, _+_}
 use mathlib.Core.Path.{_≡_}
 use mathlib.Core.List.{List, _∷_, _++_, map}
-use mathlib.Core.Bool.{Bool}
 use lib.ListN.{length}
 use Rattle.basis.specs.Tests.{pick}
 use Rattle.basis.specs.Told.{Told}
 use Rattle.flow.specs.Gap.{first-gap, gap-told}
 use Rattle.table.specs.Legal.{legal}
 use Rattle.table.specs.Mark.{marking, marks-given}
+use Rattle.table.specs.declared.Mark.{Mark}
 use Rattle.table.specs.declared.Table.{Table}
 use Rattle.numeral.specs.Number.{number-at, told as number-told}
 use Rattle.reader.specs.Reader.{reading}
@@ -43,9 +43,9 @@ is-legal t = pick (legal t) 1 0
 abbrev pub read-told : List ℕ → List ℕ
 read-told s = flat (reading s .told)
 
--- What `marks` tells of a table, and then the 32 marks: 1 for a marked place, 0 for another.
+-- What `marks` tells of a table, and then the 32 marks: the thread of a mark that is set, 100 and the thread of another.
 abbrev pub marks-told : Table → List ℕ
-marks-told t = flat (marking t) ++ map (λ (m : Bool). pick m 1 0) (marks-given t)
+marks-told t = flat (marking t) ++ map (λ (m : Mark). pick (m .set) (m .thread) (100 + m .thread)) (marks-given t)
 
 -- What `write` tells of a table in a buffer from a place on, and then what the buffer holds.
 abbrev pub write-told : List ℕ → ℕ → Table → List ℕ

@@ -25,8 +25,8 @@ waited-shown = joined (gap ∷ gap ∷ gap ∷ gap ∷ seen 1 ∷ seen 1 ∷ see
 
 abbrev known : List Entry
 known =
-    -- K-1: in E thread 0 is marked, thread 1 is not
-    record { computed = marks-told example; by-hand = 0 ∷ 1 ∷ 0 ∷ replicate 30 0 }
+    -- K-1: in E thread 0 is marked, for thread 1, and thread 1 is not
+    record { computed = marks-told example; by-hand = 0 ∷ 1 ∷ replicate 31 100 }
     -- K-2: E's ten answers
     ∷ record { computed = answers example waiting; by-hand = waited }
     -- K-3: E with thread 0 sending 1 always: T0 four times, T1 three times, idle three times
@@ -38,7 +38,7 @@ known =
     ∷ record { computed = shown-to example 0 (replicate 10 1); by-hand = waited-shown }
     ∷ record { computed = shown-to example 0 waiting; by-hand = waited-shown }
     -- K-4: E with row 1 as 3 has no marks
-    ∷ record { computed = marks-told both-ways; by-hand = 0 ∷ replicate 32 0 }
+    ∷ record { computed = marks-told both-ways; by-hand = 0 ∷ replicate 32 100 }
     -- K-4: T0, T1, T1, T1, then idle six times
     ∷ record { computed = answers both-ways waiting; by-hand = joined (ran 0 ∷ ran 1 ∷ ran 1 ∷ ran 1 ∷ replicate 6 idle) }
     -- K-5: E's bounds are 4 and 7

@@ -156,14 +156,21 @@ known =
     -- some thread of lower priority, not the next one down only: of three threads of domains 1, 0, 1 with priorities 2, 1, 3 both of domain 1
     ∷ record {
       computed = marks-told (with-threads (task 1 2 10 0 1 10 0 ∷ task 0 1 10 0 1 10 0 ∷ task 1 3 10 0 1 10 0 ∷ []));
-      by-hand = 0 ∷ 1 ∷ 0 ∷ 1 ∷ replicate 29 0;
+      by-hand = 0 ∷ 1 ∷ 100 ∷ 1 ∷ replicate 29 100;
     }
     -- of lower priority only: thread 1 may not flow to thread 0's domain, and stands below it
-    ∷ record { computed = marks-told (two 3 2 (task 0 30 10 0 4 10 2) (task 1 20 10 0 3 10 0)); by-hand = 0 ∷ replicate 32 0 }
+    ∷ record { computed = marks-told (two 3 2 (task 0 30 10 0 4 10 2) (task 1 20 10 0 3 10 0)); by-hand = 0 ∷ replicate 32 100 }
     -- the mark goes by priority, not by place: E with its threads exchanged
-    ∷ record { computed = marks-told exchanged; by-hand = 0 ∷ 0 ∷ 1 ∷ replicate 30 0 }
+    ∷ record { computed = marks-told exchanged; by-hand = 0 ∷ 100 ∷ 0 ∷ replicate 30 100 }
+    -- the first in table order is named, not one above or one that may learn, not the nearest in priority and not the last: for thread 2,
+    -- of domain 1 with priority 40, thread 3; thread 0 stands above, thread 1 is of domain 1, thread 4 is nearer and thread 5 behind
+    ∷ record {
+      computed = marks-told (with-threads (task 0 50 10 0 1 10 0 ∷ task 1 20 10 0 1 10 0 ∷ task 1 40 10 0 1 10 0
+          ∷ task 0 10 10 0 1 10 0 ∷ task 0 30 10 0 1 10 0 ∷ task 0 5 10 0 1 10 0 ∷ []));
+      by-hand = 0 ∷ 100 ∷ 3 ∷ 3 ∷ replicate 29 100;
+    }
     -- marks of a table that is not legal: 11 and no marks
-    ∷ record { computed = marks-told row-too-many; by-hand = 11 ∷ replicate 32 0 }
+    ∷ record { computed = marks-told row-too-many; by-hand = 11 ∷ replicate 32 100 }
     -- E written into 24 bytes from place 3 on: the place after it is 22, and the bytes around it stay
     ∷ record {
       computed = write-told (replicate 24 0xFF) 3 example;

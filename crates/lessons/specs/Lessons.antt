@@ -7,11 +7,12 @@ use mathlib.Core.Bool.{Bool, true, false, not}
 use lib.ListN.{length, getD, replicate}
 use lib.Dec.{eqb, ltb}
 use Rattle.basis.specs.Tests.{pick, and, or, every, some}
-use Rattle.basis.specs.Search.{listed}
+use Rattle.basis.specs.Search.{Sought, nothing, found, first, listed}
 use Rattle.basis.specs.Told.{Told, answered, refused}
 use Rattle.basis.specs.Turns.{in-turn}
 use Rattle.table.specs.Threads.{thread}
-use Rattle.table.specs.Mark.{seen-by, marks-of}
+use Rattle.table.specs.Mark.{seen-by, mark, marks-of, is-set}
+use Rattle.table.specs.declared.Mark.{Mark}
 use Rattle.table.specs.declared.Table.{Table}
 use Rattle.table.specs.declared.Thread.{Thread}
 use Rattle.example.specs.Example.{table-of, task}
@@ -53,7 +54,7 @@ unfoldable pub call : (Table → List ℕ → State → Walked) → Call
 call f t bs s = pick (fits t s) (took (f t bs s)) (refused-step 12 s)
 
 -- The step with other marks.
-unfoldable pub marking : (Table → List Bool) → Table → List ℕ → State → Walked
+unfoldable pub marking : (Table → List Mark) → Table → List ℕ → State → Walked
 marking m t bs s = advance t (m t) (order t) bs s
 
 -- The walk with v for the visit, and the step with that walk.
@@ -62,11 +63,11 @@ walk-by v bs [] s = walked Idle s
 walk-by v bs (i ∷ is) s =
     pick (chosen (v (getD bs i 0) i s .answer)) (v (getD bs i 0) i s) (walk-by v bs is (v (getD bs i 0) i s .state))
 
-unfoldable pub visiting : (List Bool → ℕ → ℕ → State → Walked) → Table → List ℕ → State → Walked
+unfoldable pub visiting : (List Mark → ℕ → ℕ → State → Walked) → Table → List ℕ → State → Walked
 visiting v t bs s = ticked (walk-by (v (marks-of t)) bs (order t) (release t (t .count) s))
 
 -- With the right visit it is the step.
-walk-same : (m : List Bool) (bs is : List ℕ) (s : State) → walk-by (visit m) bs is s ≡ walk m bs is s
+walk-same : (m : List Mark) (bs is : List ℕ) (s : State) → walk-by (visit m) bs is s ≡ walk m bs is s
 unfolding walk-by walk
 walk-same m bs [] s = refl
 walk-same m bs (i ∷ is) s = rw (walk-same m bs is)
@@ -133,12 +134,12 @@ pair-missing-leaks = refl
 
 -- b. The mark asks about the next thread down only. Thread 0 is above its own domain's thread 1, so it is not marked; where it
 -- waits, thread 1 pays in the same step, and thread 2 starts a step sooner.
-abbrev barred : Table → ℕ → List ℕ → Bool
-barred t i [] = false
-barred t i (j ∷ js) = not (seen-by t i (thread t j .domain))
+abbrev barred : Table → ℕ → List ℕ → Sought ℕ
+barred t i [] = nothing
+barred t i (j ∷ js) = pick (seen-by t i (thread t j .domain)) nothing (found j)
 
-unfoldable pub next-marks : Table → List Bool
-next-marks t = listed (t .count) (λ i. barred t i (down t (thread t i .priority)))
+unfoldable pub next-marks : Table → List Mark
+next-marks t = listed (t .count) (λ i. mark (barred t i (down t (thread t i .priority))))
 
 abbrev next-only : Lesson
 next-only = record {
@@ -154,10 +155,10 @@ unfolding trace call marking next-marks
 next-only-leaks = refl
 
 -- c. The flow is reversed in the mark. Thread 1 may flow to thread 0, so thread 0 is not marked.
-unfoldable pub reversed-marks : Table → List Bool
+unfoldable pub reversed-marks : Table → List Mark
 reversed-marks t =
-    listed (t .count) (λ i.
-    some (t .count) (λ j. and (ltb (thread t j .priority) (thread t i .priority)) (not (seen-by t j (thread t i .domain)))))
+    listed (t .count) (λ i. mark (first (t .count) (λ j.
+    pick (and (ltb (thread t j .priority) (thread t i .priority)) (not (seen-by t j (thread t i .domain)))) (found j) nothing)))
 
 abbrev flow-reversed : Lesson
 flow-reversed = seen-from-below (call (marking reversed-marks))
@@ -171,15 +172,15 @@ abbrev free : State → ℕ → State
 free s i = s
 
 -- The visit, but a thread that waits pays by f if marked, and by g if not.
-unfoldable pub paying : (State → ℕ → State) → (State → ℕ → State) → List Bool → ℕ → ℕ → State → Walked
+unfoldable pub paying : (State → ℕ → State) → (State → ℕ → State) → List Mark → ℕ → ℕ → State → Walked
 paying f g m b i s =
     let r : State = heard b i s in
     pick (eqb (progress s i .rest) 0) (walked Idle s)
     (pick (runs b (progress r i)) (walked (Ran i) (count (pay r i) i))
-    (pick (getD m i false) (walked (IdleFor i) (f r i)) (walked Idle (g r i))))
+    (pick (is-set m i) (walked (IdleFor i) (f r i)) (walked Idle (g r i))))
 
 -- Where both pay, it is the visit.
-pub paying-same : (m : List Bool) (b i : ℕ) (s : State) → paying pay pay m b i s ≡ visit m b i s
+pub paying-same : (m : List Mark) (b i : ℕ) (s : State) → paying pay pay m b i s ≡ visit m b i s
 unfolding paying visit decided
 paying-same m b i s = refl
 
@@ -208,7 +209,7 @@ nobody-pays-leaks = refl
 
 -- e. No marks: the time of a thread that waits is handed down, and nobody idles. Not a message is sent; who looks for leaks in
 -- messages only finds none, and yet thread 1's clock tells domain 0 whether thread 0 waits.
-unfoldable pub no-marks : Table → List Bool
+unfoldable pub no-marks : Table → List Mark
 no-marks t = []
 
 abbrev handed-down : Lesson

@@ -7,7 +7,8 @@ use mathlib.Core.Bool.{true, false}
 use lib.ListN.{replicate, take}
 use Rattle.basis.specs.Told.{Told, answered}
 use Rattle.table.specs.Legal.{legal}
-use Rattle.table.specs.Mark.{marks-of}
+use Rattle.basis.specs.Search.{nothing, found}
+use Rattle.table.specs.Mark.{mark, marks-of}
 use Rattle.example.specs.Story.{story, monitor-sends}
 use Rattle.state.specs.State.{fresh}
 use Rattle.scheduler.specs.Taken.{Taken, values, taken}
@@ -15,12 +16,12 @@ use Rattle.lessons.specs.Lessons.{Call, run, trace, call, marking, no-ma
 use Rattle.walk.specs.declared.Answer.{Answer}
 use Rattle.walk.specs.declared.Answer.the-variants.{Ran, IdleFor, Idle}
 
--- The table is legal, and the monitor is marked.
+-- The table is legal, and the monitor is marked for the pitch loop, the first thread below it.
 pub story-legal : legal story ≡ true
 unfolding trace
 story-legal = refl
 
-pub monitor-marked : take 3 (marks-of story) ≡ false ∷ false ∷ true ∷ []
+pub monitor-marked : take 3 (marks-of story) ≡ mark nothing ∷ mark nothing ∷ mark (found 0) ∷ []
 unfolding trace
 monitor-marked = refl
 

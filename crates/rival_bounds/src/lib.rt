@@ -128,7 +128,8 @@ pub fn prohibition(t: Table, l: u8) -> u64 {
     let mut sum: u64 = 0;
     for h in 0..32usize {
         let f = t.threads[h];
-        sum = std::num::wrapping_add_u64(sum, prohibited_by(f, own, marks[h]));
+        let m = marks[h];
+        sum = std::num::wrapping_add_u64(sum, prohibited_by(f, own, m.set));
     }
     sum
 }

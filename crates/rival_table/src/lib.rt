@@ -1,6 +1,6 @@
 // A second reading of which tables are legal and which threads are marked, written from document 01 alone. It shares types with
 // the first, and neither a function nor a definition. It keeps the relation as sets, sorts the threads by selection, and finds
-// the marks from the lowest thread up.
+// the marks from the lowest thread up and whom they protect from the order.
 mod judge;
 mod rank;
 mod relation;
@@ -14,12 +14,13 @@ pub use relation::Gap;
 pub use relation::first_gap;
 pub use relation::flows;
 pub use relation::row_is_good;
+use table::Mark;
 use table::Table;
 
 // The leak mark of each thread; none where the table is not legal.
-pub fn marks(t: Table) -> [bool; 32] {
+pub fn marks(t: Table) -> [Mark; 32] {
     if !legal(t) {
-        return [false; 32];
+        return rank::no_marks();
     }
-    leaks(t, order(t))
+    rank::marks(t, order(t))
 }

@@ -17,4 +17,4 @@ unfolding seen-by
 guard-marked t l d i j dd ci cj lower seen hidden =
     let not-seen : flows (t .rows) (thread t i .domain) (thread t j .domain) ≡ false
     = fails _ (λ f. refuted (l .transitive _ _ _ (l .threads i ci .domain-high) (l .threads j cj .domain-high) dd f seen) hidden) in
-    mark-complete t i (record { thread-below = j; in-table = cj; lower = lower; barred = cc not-seen })
+    mark-complete t i (record { thread-below = j; in-table = cj; barred = record { lower = lower; unseen = cc not-seen } })

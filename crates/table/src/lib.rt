@@ -4,11 +4,12 @@ ghost use Rattle.table.specs.Legal.{legal as is-legal};
 ghost use Rattle.table.specs.Mark.{told, marking, marks-given};
 
 mod judge;
-mod mark;
+mod leak;
 mod ranges;
 
 pub use judge::is_taken;
-pub use mark::mark_all;
+pub use leak::mark_all;
+pub use leak::no_mark;
 pub use ranges::field_range;
 pub use ranges::fields;
 pub use ranges::in_range;
@@ -41,6 +42,12 @@ pub struct Range {
     pub below: u32,
 }
 
+// A leak mark: whether it is set, and the first thread that it protects, 0 where it is not.
+pub struct Mark {
+    pub set: bool,
+    pub thread: u8,
+}
+
 pub enum Marking {
     Done,
     NotLegal,
@@ -48,7 +55,7 @@ pub enum Marking {
 
 pub struct Marked {
     pub answer: Marking,
-    pub marks: [bool; 32],
+    pub marks: [Mark; 32],
 }
 
 // Whether a table is legal.
@@ -58,14 +65,15 @@ pub fn legal(t: Table) -> bool
     judge::table_passes(t)
 }
 
-// The leak mark of each thread.
+// The leak mark of each thread, with the thread that it protects.
 pub fn marks(t: Table) -> Marked
     ensures { λ r. ⌜ (told (r .answer) ≡ marking t) × (r .marks ≡ marks-given t) ⌝ }
 {
     if !legal(t) {
+        let none = no_mark();
         return Marked {
             answer: Marking::NotLegal,
-            marks: [false; 32],
+            marks: [none; 32],
         };
     }
     Marked {

@@ -2,7 +2,7 @@
 use Prim.Native.Nat.{ℕ, _+_, _-_, _≤_, _<_}
 use mathlib.Core.Path.{_≡_, refl, sym, _∙_, ap}
 use mathlib.Core.List.{List, [], _∷_}
-use mathlib.Core.Bool.{Bool, true, false, not, true≢false}
+use mathlib.Core.Bool.{true, false, not, true≢false}
 use mathlib.Core.Logic.{_≢_, ⊎-elim}
 use native.Mathlib.Omega.{arith}
 use native.Mathlib.Nat.{lt-trans}
@@ -14,9 +14,10 @@ use Rattle.basis.specs.Tests.{pick, and}
 use Rattle.basis.proofs.TestLaws.{both-ways, either, by-test, refuted, fails, and-both}
 use Rattle.table.specs.Threads.{thread}
 use Rattle.table.specs.Legal.{Legal}
-use Rattle.table.specs.Mark.{marked, marks-of}
+use Rattle.table.specs.Mark.{marked, marks-of, is-set}
 use Rattle.table.specs.declared.Table.{Table}
-use Rattle.table.proofs.MarkLaws.{marks-at}
+use Rattle.table.proofs.MarkLaws.{set-exactly}
+use Rattle.table.specs.declared.Mark.{Mark}
 use Rattle.state.specs.State.{no-progress, progress, put, Fits}
 use Rattle.state.specs.Release.{release}
 use Rattle.state.specs.Methods.{paid, pay, done, finish, counted, count, tick}
@@ -53,7 +54,7 @@ own-idle k i idles = refl
 nobody : {A : Type 0} (k : ℕ) → Names k Idle → A
 nobody k n = elim n [ ]
 
-module _ (m : List Bool) (b i : ℕ) (s : State) where
+module _ (m : List Mark) (b i : ℕ) (s : State) where
   -- A visit touches its own thread only.
   pub visit-others : (k : ℕ) → k ≢ i → progress (visit m b i s .state) k ≡ progress s k
   unfolding visit decided heard finish pay count
@@ -72,7 +73,7 @@ module _ (m : List Bool) (b i : ℕ) (s : State) where
       both-ways P _ _ _ (nobody k) (both-ways P _ _ _ (own-run k i) (both-ways P _ _ _ (own-idle k i) (nobody k)))
 
 -- A reached thread that runs is chosen, and its count goes up by one.
-pub runs-chosen : (m : List Bool) (i : ℕ) (s : State) → 0 < progress s i .rest → progress s i .finished ≡ false
+pub runs-chosen : (m : List Mark) (i : ℕ) (s : State) → 0 < progress s i .rest → progress s i .finished ≡ false
     → visit m 1 i s ≡ walked (Ran i) (count (pay s i) i)
 unfolding visit decided heard runs pick
 runs-chosen m i s h f = rw (ne-eqb (progress s i .rest) 0 (λ e. omega arith), f)
@@ -84,7 +85,7 @@ runs-counted i s l =
     let e : progress (put s i p) i ≡ p = put-same s i p l in
     ap (λ (q : Progress). q .ran) (put-same (put s i p) i _ (rw (length-set (s .threads) i p) l)) ∙ ap (λ (q : Progress). q .ran + 1) e
 
-module _ (t : Table) (m : List Bool) (bs : List ℕ) where
+module _ (t : Table) (m : List Mark) (bs : List ℕ) where
   -- The thread that a walk down a falling list names has a priority below p, ..
   walk-named : (i p : ℕ) (is : List ℕ) (s : State) → Falling-from t p is → Names i (walk m bs is s .answer) → thread t i .priority < p
   unfolding walk
@@ -114,12 +115,12 @@ unfolding step advance ticked tick
 below-chosen t bs s i k n l = walk-below t (marks-of t) bs i k 256 (order t) _ (order-falls-from t) n l
 
 -- A thread with a rest is reached.
-reached : (m : List Bool) (b i : ℕ) (s : State) → 0 < progress s i .rest → visit m b i s ≡ decided m b i (heard b i s)
+reached : (m : List Mark) (b i : ℕ) (s : State) → 0 < progress s i .rest → visit m b i s ≡ decided m b i (heard b i s)
 unfolding visit pick
 reached m b i s h = rw (ne-eqb (progress s i .rest) 0 (λ e. omega arith))
 
 -- One that runs is chosen: its byte is 1, and hearing that changes nothing.
-running : (m : List Bool) (b i : ℕ) (s : State) → 0 < progress s i .rest → runs b (progress s i) ≡ true → chosen (visit m b i s .answer) ≡ true
+running : (m : List Mark) (b i : ℕ) (s : State) → 0 < progress s i .rest → runs b (progress s i) ≡ true → chosen (visit m b i s .answer) ≡ true
 unfolding decided heard runs pick
 running m b i s h r =
     let q = and-both (eqb b 1) (not (progress s i .finished)) r in
@@ -127,14 +128,14 @@ running m b i s h r =
     rw (reached m b i s h, one, q .1)
 
 -- A visit that chooses nobody found no rest, or a thread that neither runs nor is marked.
-passed-over : (m : List Bool) (b i : ℕ) (s : State) → chosen (visit m b i s .answer) ≡ false → 0 < progress s i .rest
-    → (getD m i false ≡ false) × (runs b (progress s i) ≡ false)
+passed-over : (m : List Mark) (b i : ℕ) (s : State) → chosen (visit m b i s .answer) ≡ false → 0 < progress s i .rest
+    → (is-set m i ≡ false) × (runs b (progress s i) ≡ false)
 passed-over m b i s e h = (
   fails _ (λ k. refuted (rw (reached m b i s h) (marked-ends m b i (heard b i s) k)) e),
   fails _ (λ k. refuted (running m b i s h k) e),
 )
 
-module _ (t : Table) (m : List Bool) (bs : List ℕ) where
+module _ (t : Table) (m : List Mark) (bs : List ℕ) where
   -- A thread that stands in a falling list has a priority below p.
   stands-lower : (i p : ℕ) (is : List ℕ) → Falling-from t p is → Stands i is → thread t i .priority < p
   stands-lower i p [] f h = absurd h
@@ -142,7 +143,7 @@ module _ (t : Table) (m : List Bool) (bs : List ℕ) where
       ⊎-elim (λ (e : i ≡ j). rw e (f .0)) (λ (q : Stands i js). omega (arith, stands-lower i _ js (f .1) q, f .0)) h
 
   walk-idle : (i p : ℕ) (is : List ℕ) (s : State) → Falling-from t p is → walk m bs is s .answer ≡ Idle → Stands i is → 0 < progress s i .rest
-      → (getD m i false ≡ false) × (runs (getD bs i 0) (progress s i) ≡ false)
+      → (is-set m i ≡ false) × (runs (getD bs i 0) (progress s i) ≡ false)
   walk-idle i p [] s f e h r = absurd h
   walk-idle i p (j ∷ js) s f e h r =
       by-test (chosen (visit m (getD bs j 0) j s .answer))
@@ -163,10 +164,10 @@ pub idle-only : (t : Table) → Legal t → (bs : List ℕ) (s : State) → step
 unfolding step advance ticked
 idle-only t g bs s e i l h =
     let w = walk-idle t (marks-of t) bs i 256 (order t) _ (order-falls-from t) e (order-whole t g i l) h in
-    (sym (marks-at t i l) ∙ w .0, w .1)
+    (sym (set-exactly t i l) ∙ w .0, w .1)
 
 -- What a reached thread has left once it has paid.
-module _ (m : List Bool) (b i : ℕ) (s : State) (l : i < length (s .threads)) where
+module _ (m : List Mark) (b i : ℕ) (s : State) (l : i < length (s .threads)) where
   heard-rest : progress (heard b i s) i .rest ≡ progress s i .rest
   unfolding heard finish
   heard-rest = both-ways (λ (x : State). progress x i .rest ≡ progress s i .rest) _ _ _ (ap (λ (q : Progress). q .rest) (put-same s i _ l)) refl
@@ -185,11 +186,11 @@ module _ (m : List Bool) (b i : ℕ) (s : State) (l : i < length (s .threads)) w
       let q : State = put (heard b i s) i (paid (progress (heard b i s) i)) in
       ap (λ (x : Progress). x .rest) (put-same q i _ (rw (length-set (heard b i s .threads) i (paid (progress (heard b i s) i)), heard-long) l)) ∙ paid-rest
 
-module _ (t : Table) (m : List Bool) (bs : List ℕ) where
+module _ (t : Table) (m : List Mark) (bs : List ℕ) where
   -- Above the thread that a walk names, nobody with a rest runs or is marked.
   walk-first : (i k p : ℕ) (is : List ℕ) (s : State) → Falling-from t p is → Names k (walk m bs is s .answer)
       → thread t k .priority < thread t i .priority → Stands i is → 0 < progress s i .rest
-      → (getD m i false ≡ false) × (runs (getD bs i 0) (progress s i) ≡ false)
+      → (is-set m i ≡ false) × (runs (getD bs i 0) (progress s i) ≡ false)
   walk-first i k p [] s f n l h r = absurd h
   walk-first i k p (j ∷ js) s f n l h r =
       by-test (chosen (visit m (getD bs j 0) j s .answer))
@@ -215,7 +216,7 @@ pub chosen-first : (t : Table) → Legal t → (bs : List ℕ) (s : State) (k i 
 unfolding step advance ticked
 chosen-first t g bs s k i n l c h =
     let w = walk-first t (marks-of t) bs i k 256 (order t) _ (order-falls-from t) n l (order-whole t g i c) h in
-    (sym (marks-at t i c) ∙ w .0, w .1)
+    (sym (set-exactly t i c) ∙ w .0, w .1)
 
 -- Hearing does not change whether a thread runs: its byte is 1 or it does not run before and after.
 heard-runs : (b i : ℕ) (s : State) → runs b (progress (heard b i s) i) ≡ runs b (progress s i)
@@ -225,7 +226,7 @@ heard-runs b i s =
     (λ e. let one : b ≡ 1 = eqb-true b 1 e in rw one)
     (λ e. rw e)
 
-module _ (m : List Bool) (bs : List ℕ) where
+module _ (m : List Mark) (bs : List ℕ) where
   visit-says : (i : ℕ) (s : State) → Says m bs s (visit m (getD bs i 0) i s .answer)
   unfolding visit decided
   visit-says i s =
@@ -233,9 +234,9 @@ module _ (m : List Bool) (bs : List ℕ) where
       let b : ℕ = getD bs i 0 in
       either P (eqb (progress s i .rest) 0) (λ e. tt)
       (λ e. either P (runs (getD bs i 0) (progress (heard (getD bs i 0) i s) i)) (λ r. sym (heard-runs b i s) ∙ r)
-      (λ r. either P (getD m i false) (λ k. (k, sym (heard-runs b i s) ∙ r)) (λ k. tt)))
+      (λ r. either P (is-set m i) (λ k. (k, sym (heard-runs b i s) ∙ r)) (λ k. tt)))
 
-module _ (t : Table) (m : List Bool) (bs : List ℕ) where
+module _ (t : Table) (m : List Mark) (bs : List ℕ) where
   -- What is said of a thread is said where its progress is the same.
   says-back : (s z : State) (a : Answer) → ((k : ℕ) → Names k a → progress z k ≡ progress s k) → Says m bs z a → Says m bs s a
   says-back s z (Ran k) o h = let e : progress z k ≡ progress s k = o k ran in rw e at h

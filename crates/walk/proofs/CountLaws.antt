@@ -2,7 +2,7 @@
 use Prim.Native.Nat.{ℕ, _+_, _≤_, _<_}
 use mathlib.Core.Path.{_≡_, refl, sym, _∙_, ap}
 use mathlib.Core.List.{List, [], _∷_}
-use mathlib.Core.Bool.{Bool, true, false, true≢false}
+use mathlib.Core.Bool.{true, false, true≢false}
 use mathlib.Core.Logic.{_≢_}
 use native.Mathlib.Omega.{arith}
 use borrow.Author.Tests.{eqb-true, eqb-false, eq-eqb, ne-eqb}
@@ -13,6 +13,7 @@ use Rattle.basis.specs.Tests.{pick}
 use Rattle.basis.proofs.TestLaws.{both-ways, either, by-test}
 use Rattle.table.specs.Mark.{marks-of}
 use Rattle.table.specs.declared.Table.{Table}
+use Rattle.table.specs.declared.Mark.{Mark}
 use Rattle.state.specs.State.{no-progress, progress, put, Fits}
 use Rattle.state.specs.Release.{release}
 use Rattle.state.specs.Methods.{paid, pay, done, finish, counted, count, tick}
@@ -41,7 +42,7 @@ other-run : (i j : ℕ) → i ≢ j → ran-by i (Ran j) ≡ 0
 unfolding ran-by pick
 other-run i j d = rw (ne-eqb i j d)
 
-module _ (m : List Bool) (b i : ℕ) (s : State) (l : i < length (s .threads)) where
+module _ (m : List Mark) (b i : ℕ) (s : State) (l : i < length (s .threads)) where
   heard-ran : progress (heard b i s) i .ran ≡ progress s i .ran
   unfolding heard finish
   heard-ran = both-ways (λ (x : State). progress x i .ran ≡ progress s i .ran) _ _ _ (put-ran s i _ l) refl
@@ -63,14 +64,14 @@ module _ (m : List Bool) (b i : ℕ) (s : State) (l : i < length (s .threads)) w
       either P (eqb (progress s i .rest) 0) (λ e. omega arith)
       (λ e. reached-pays m b i (heard b i s) P (omega (arith, counted-ran, own-run i)) (omega (arith, paid-ran)) (omega (arith, paid-ran)))
 
-visit-none : (m : List Bool) (b i j : ℕ) (s : State) → i ≢ j → ran-by i (visit m b j s .answer) ≡ 0
+visit-none : (m : List Mark) (b i j : ℕ) (s : State) → i ≢ j → ran-by i (visit m b j s .answer) ≡ 0
 unfolding visit decided ran-by
 visit-none m b i j s d =
     let P : Walked → Type 0 = λ w. ran-by i (w .answer) ≡ 0 in
     both-ways P _ _ _ refl (both-ways P _ _ _ (other-run i j d) (both-ways P _ _ _ refl refl))
 
 -- A visit counts the thread that it lets run.
-visit-counts : (m : List Bool) (b i j : ℕ) (s : State) → i < length (s .threads)
+visit-counts : (m : List Mark) (b i j : ℕ) (s : State) → i < length (s .threads)
     → progress (visit m b j s .state) i .ran ≡ progress s i .ran + ran-by i (visit m b j s .answer)
 visit-counts m b i j s l =
     by-test (eqb i j)
@@ -86,7 +87,7 @@ still (Ran i) e = absurd (true≢false e)
 still (IdleFor i) e = absurd (true≢false e)
 still Idle e = refl
 
-module _ (m : List Bool) (bs : List ℕ) where
+module _ (m : List Mark) (bs : List ℕ) where
   walk-counts : (i : ℕ) (is : List ℕ) (s : State) → i < length (s .threads)
       → progress (walk m bs is s .state) i .ran ≡ progress s i .ran + ran-by i (walk m bs is s .answer)
   unfolding walk ran-by
@@ -112,7 +113,7 @@ step-counts t bs s few f i l =
     walk-counts (marks-of t) bs i (order t) (release t (t .count) s) (rw long (omega arith))
 
 -- A thread with no rest is passed.
-visit-rests : (m : List Bool) (b i j : ℕ) (s : State) → progress s i .rest ≡ 0 → progress (visit m b j s .state) i ≡ progress s i
+visit-rests : (m : List Mark) (b i j : ℕ) (s : State) → progress s i .rest ≡ 0 → progress (visit m b j s .state) i ≡ progress s i
 visit-rests m b i j s z =
     by-test (eqb i j)
     (λ e.
@@ -121,7 +122,7 @@ visit-rests m b i j s z =
     rw (q, visit-passes m b j s (eq-eqb (progress s j .rest) 0 n)))
     (λ e. visit-others m b j s i (eqb-false i j e))
 
-walk-rests : (m : List Bool) (bs : List ℕ) (i : ℕ) (is : List ℕ) (s : State) → progress s i .rest ≡ 0
+walk-rests : (m : List Mark) (bs : List ℕ) (i : ℕ) (is : List ℕ) (s : State) → progress s i .rest ≡ 0
     → progress (walk m bs is s .state) i ≡ progress s i
 unfolding walk
 walk-rests m bs i [] s z = refl

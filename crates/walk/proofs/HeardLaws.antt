@@ -8,6 +8,7 @@ use lib.Dec.{eqb}
 use Rattle.basis.specs.Tests.{pick}
 use Rattle.table.specs.Mark.{marks-of}
 use Rattle.table.specs.declared.Table.{Table}
+use Rattle.table.specs.declared.Mark.{Mark}
 use Rattle.state.specs.declared.State.{State}
 use Rattle.walk.specs.declared.Answer.the-variants.{Idle}
 use Rattle.state.specs.State.{progress}
@@ -18,15 +19,15 @@ use Rattle.walk.specs.Step.{advance, step}
 use Rattle.walk.specs.Heard.{heard-by, Alike}
 
 -- A thread with a rest of 0 is passed, whatever its byte.
-pub visit-passes : (m : List Bool) (b i : ℕ) (s : State) → eqb (progress s i .rest) 0 ≡ true → visit m b i s ≡ walked Idle s
+pub visit-passes : (m : List Mark) (b i : ℕ) (s : State) → eqb (progress s i .rest) 0 ≡ true → visit m b i s ≡ walked Idle s
 unfolding visit pick
 visit-passes m b i s e = rw e
 
-walk-passes : (m : List Bool) (bs : List ℕ) (i : ℕ) (is : List ℕ) (s : State) → eqb (progress s i .rest) 0 ≡ true → walk m bs (i ∷ is) s ≡ walk m bs is s
+walk-passes : (m : List Mark) (bs : List ℕ) (i : ℕ) (is : List ℕ) (s : State) → eqb (progress s i .rest) 0 ≡ true → walk m bs (i ∷ is) s ≡ walk m bs is s
 unfolding walk pick
 walk-passes m bs i is s e = rw (visit-passes m (getD bs i 0) i s e)
 
-module _ (m : List Bool) (bs cs : List ℕ) where
+module _ (m : List Mark) (bs cs : List ℕ) where
   -- the visits are the same where the bytes are, and the walk stops or goes on with both
   heard-turn : (i : ℕ) (is : List ℕ) (s : State) → getD bs i 0 ≡ getD cs i 0
       → ((z : State) → Alike bs cs (heard-by m bs is z) → walk m bs is z ≡ walk m cs is z)

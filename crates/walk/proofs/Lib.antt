@@ -5,3 +5,4 @@ pub mod PaidLaws
 pub mod ReachedLaws
 pub mod ChoiceLaws
 pub mod CountLaws
+pub mod SameLaws

@@ -3,7 +3,7 @@
 use Prim.Native.Nat.{ℕ, _+_, _-_, _≤_, _<_, zero-le}
 use mathlib.Core.Path.{_≡_}
 use mathlib.Core.List.{List, [], _∷_}
-use mathlib.Core.Bool.{Bool, false}
+use mathlib.Core.Bool.{false}
 use native.Mathlib.Omega.{arith}
 use native.Mathlib.Nat.{le-refl}
 use lib.ListN.{length, getD}
@@ -11,6 +11,7 @@ use Rattle.basis.proofs.TestLaws.{both-ways}
 use Rattle.table.specs.Threads.{thread}
 use Rattle.table.specs.Mark.{marks-of}
 use Rattle.table.specs.declared.Table.{Table}
+use Rattle.table.specs.declared.Mark.{Mark}
 use Rattle.state.specs.State.{progress, Fits}
 use Rattle.state.specs.Release.{release, releases}
 use Rattle.state.specs.Methods.{pay, finish, count, tick}
@@ -40,7 +41,7 @@ step-spends t bs s =
     record { at = w .at }
 
 -- A walk down a falling list reaches each thread once.
-module _ (t : Table) (m : List Bool) (s : State) where
+module _ (t : Table) (m : List Mark) (s : State) where
   -- since s thread i has paid one at most, and nothing if its priority is below p: the walk has not reached it
   abbrev Once : ℕ → ℕ → Progress → Type 0
   Once p i q = (progress s i .rest ≤ q .rest + 1) × (thread t i .priority < p → progress s i .rest ≤ q .rest)

@@ -12,6 +12,7 @@ use lib.Dec.{eqb}
 use Rattle.basis.proofs.TestLaws.{both-ways, either}
 use Rattle.table.specs.Mark.{marks-of}
 use Rattle.table.specs.declared.Table.{Table}
+use Rattle.table.specs.declared.Mark.{Mark}
 use Rattle.state.specs.State.{progress, last-clock, Place-fits, Fits}
 use Rattle.state.specs.Release.{release}
 use Rattle.state.specs.Methods.{tick}
@@ -35,7 +36,7 @@ module _ (t : Table) (c : ℕ) where
     finishes = λ i p l h. record { rest-high = h .rest-high; ran-high = h .ran-high; unused = λ u. absurd (omega arith) };
   }
 
-module _ (t : Table) (m : List Bool) (is bs : List ℕ) (s : State) where
+module _ (t : Table) (m : List Mark) (is bs : List ℕ) (s : State) where
   pub advance-clock : advance t m is bs s .state .clock ≡ s .clock + 1
   unfolding advance ticked tick
   advance-clock = rw (walk-clock, release-clock)
@@ -78,7 +79,7 @@ unrested (IdleFor i) s = eqb (progress s i .rest) 0
 unrested Idle s = false
 
 -- The thread that a visit chooses has a rest there, and so in every state with no less rest.
-visit-rested : (m : List Bool) (b i : ℕ) (s : State) → unrested (visit m b i s .answer) s ≡ false
+visit-rested : (m : List Mark) (b i : ℕ) (s : State) → unrested (visit m b i s .answer) s ≡ false
 unfolding visit decided
 visit-rested m b i s =
     let R : Walked → Type 0 = λ w. unrested (w .answer) s ≡ false in
@@ -92,7 +93,7 @@ rested-before s z h (Ran i) e = had-rest s z h i e
 rested-before s z h (IdleFor i) e = had-rest s z h i e
 rested-before s z h Idle e = refl
 
-module _ (m : List Bool) (bs : List ℕ) (s : State) where
+module _ (m : List Mark) (bs : List ℕ) (s : State) where
   turn : (i : ℕ) (is : List ℕ) (z : State) → Spent s z → ((y : State) → Spent s y → unrested (walk m bs is y .answer) s ≡ false)
       → (b : Bool) → chosen (visit m (getD bs i 0) i z .answer) ≡ b → unrested (walk m bs (i ∷ is) z .answer) s ≡ false
   turn i is z h rest true e = rw (walk-stop m bs i is z e) (rested-before s z h (visit m (getD bs i 0) i z .answer) (visit-rested m (getD bs i 0) i z))

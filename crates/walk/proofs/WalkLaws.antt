@@ -10,6 +10,7 @@ use lib.Seq.{slice, slice-cons, slice-empty}
 use lib.Dec.{eqb}
 use Rattle.basis.specs.Tests.{pick}
 use Rattle.basis.proofs.TestLaws.{by-test, both-ways}
+use Rattle.table.specs.declared.Mark.{Mark}
 use Rattle.state.specs.State.{progress, put}
 use Rattle.state.specs.Methods.{paid, pay, done, finish, counted, count}
 use Rattle.state.specs.Given.{Each}
@@ -22,17 +23,17 @@ use Rattle.walk.specs.declared.Answer.the-variants.{Idle}
 use Rattle.walk.specs.declared.Walked.{Walked}
 
 -- One turn of the walk.
-pub walk-on : (m : List Bool) (bs : List ℕ) (i : ℕ) (is : List ℕ) (s : State) → chosen (visit m (getD bs i 0) i s .answer) ≡ false
+pub walk-on : (m : List Mark) (bs : List ℕ) (i : ℕ) (is : List ℕ) (s : State) → chosen (visit m (getD bs i 0) i s .answer) ≡ false
     → walk m bs (i ∷ is) s ≡ walk m bs is (visit m (getD bs i 0) i s .state)
 unfolding walk pick
 walk-on m bs i is s e = simp e
 
-pub walk-stop : (m : List Bool) (bs : List ℕ) (i : ℕ) (is : List ℕ) (s : State) → chosen (visit m (getD bs i 0) i s .answer) ≡ true
+pub walk-stop : (m : List Mark) (bs : List ℕ) (i : ℕ) (is : List ℕ) (s : State) → chosen (visit m (getD bs i 0) i s .answer) ≡ true
     → walk m bs (i ∷ is) s ≡ visit m (getD bs i 0) i s
 unfolding walk pick
 walk-stop m bs i is s e = simp e
 
-pub walk-none : (m : List Bool) (bs l : List ℕ) (n k : ℕ) (s : State) → k ≤ n → n ≤ k → walk m bs (slice k n l) s ≡ walked Idle s
+pub walk-none : (m : List Mark) (bs l : List ℕ) (n k : ℕ) (s : State) → k ≤ n → n ≤ k → walk m bs (slice k n l) s ≡ walked Idle s
 unfolding walk
 walk-none m bs l n k s p q = rw (le-antisymm p q, slice-empty)
 
@@ -65,7 +66,7 @@ module _ (n : ℕ) (P : ℕ → Progress → Type 0) (kept : Kept n P) where
   unfolding heard
   heard-each b i s l h = both-ways (Each P) _ _ _ (finish-each i s l h) h
 
-module _ (m : List Bool) (n : ℕ) (P : ℕ → Progress → Type 0) (kept : Kept n P) where
+module _ (m : List Mark) (n : ℕ) (P : ℕ → Progress → Type 0) (kept : Kept n P) where
   -- a visit that chooses nobody; `search` takes the state that the definition hands on, heard (k) or paid too (q)
   pub passed-each : (b i : ℕ) (s : State) → i < n → Each P s → chosen (visit m b i s .answer) ≡ false → Each P (visit m b i s .state)
   unfolding visit decided pay
@@ -101,7 +102,7 @@ module _ (m : List Bool) (n : ℕ) (P : ℕ → Progress → Type 0) (kept : Kep
 
 -- what every store keeps is kept by a walk
 module _ {A : Type 0} (f : State → A) (kept : (s : State) (i : ℕ) (p : Progress) → f (put s i p) ≡ f s) where
-  pub visit-keeps : (m : List Bool) (b i : ℕ) (s : State) → f (visit m b i s .state) ≡ f s
+  pub visit-keeps : (m : List Mark) (b i : ℕ) (s : State) → f (visit m b i s .state) ≡ f s
   unfolding visit decided heard finish pay count
   visit-keeps m b i s =
       let Q : State → Type 0 = λ x. f x ≡ f s in
@@ -110,17 +111,17 @@ module _ {A : Type 0} (f : State → A) (kept : (s : State) (i : ℕ) (p : Progr
       let q : f (pay (heard b i s) i) ≡ f s = kept _ _ _ ∙ k in
       both-ways P _ _ _ refl (both-ways P _ _ _ (kept _ _ _ ∙ q) (both-ways P _ _ _ (search) (search)))
 
-  pub walk-keeps : (m : List Bool) (bs is : List ℕ) (s : State) → f (walk m bs is s .state) ≡ f s
+  pub walk-keeps : (m : List Mark) (bs is : List ℕ) (s : State) → f (walk m bs is s .state) ≡ f s
   unfolding walk
   walk-keeps m bs [] s = refl
   walk-keeps m bs (i ∷ is) s =
       let P : Walked → Type 0 = λ w. f (w .state) ≡ f s in
       both-ways P _ _ _ (visit-keeps m _ i s) (walk-keeps m bs is _ ∙ visit-keeps m _ i s)
 
-pub walk-clock : (m : List Bool) (bs is : List ℕ) (s : State) → walk m bs is s .state .clock ≡ s .clock
+pub walk-clock : (m : List Mark) (bs is : List ℕ) (s : State) → walk m bs is s .state .clock ≡ s .clock
 walk-clock m bs is s = walk-keeps (λ s. s .clock) (λ s i p. refl) m bs is s
 
-pub walk-length : (m : List Bool) (bs is : List ℕ) (s : State) → length (walk m bs is s .state .threads) ≡ length (s .threads)
+pub walk-length : (m : List Mark) (bs is : List ℕ) (s : State) → length (walk m bs is s .state .threads) ≡ length (s .threads)
 walk-length m bs is s = walk-keeps (λ s. length (s .threads)) (λ s i p. length-set (s .threads) i p) m bs is s
 
 -- Paying and finishing leave the counts.

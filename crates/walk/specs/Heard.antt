@@ -2,16 +2,16 @@
 use Prim.Native.Nat.{ℕ}
 use mathlib.Core.Path.{_≡_}
 use mathlib.Core.List.{List, [], _∷_}
-use mathlib.Core.Bool.{Bool}
 use lib.ListN.{getD}
 use lib.Dec.{eqb}
 use Rattle.basis.specs.Tests.{pick}
+use Rattle.table.specs.declared.Mark.{Mark}
 use Rattle.state.specs.State.{progress}
 use Rattle.walk.specs.Walk.{visit, chosen}
 use Rattle.state.specs.declared.State.{State}
 
 -- In the order of the walk; a thread with a rest of 0 is passed, and behind the chosen one nobody is heard.
-unfoldable pub heard-by : List Bool → List ℕ → List ℕ → State → List ℕ
+unfoldable pub heard-by : List Mark → List ℕ → List ℕ → State → List ℕ
 heard-by m bs [] s = []
 heard-by m bs (i ∷ is) s =
     pick (eqb (progress s i .rest) 0) (heard-by m bs is s)

@@ -2,12 +2,13 @@
 use Prim.Native.Nat.{ℕ, _<_}
 use mathlib.Core.Path.{_≡_}
 use mathlib.Core.List.{List}
-use mathlib.Core.Bool.{Bool, true, false}
+use mathlib.Core.Bool.{true, false}
 use lib.ListN.{getD}
 use lib.Dec.{eqb}
 use Rattle.basis.specs.Tests.{pick}
-use Rattle.table.specs.Mark.{marks-of}
+use Rattle.table.specs.Mark.{marks-of, is-set}
 use Rattle.table.specs.declared.Table.{Table}
+use Rattle.table.specs.declared.Mark.{Mark}
 use Rattle.state.specs.State.{progress}
 use Rattle.state.specs.Release.{release}
 use Rattle.state.specs.Methods.{tick}
@@ -23,7 +24,7 @@ unfoldable pub ticked : Walked → Walked
 ticked w = walked (w .answer) (tick (w .state))
 
 -- A step whose walk goes over the threads is, with the marks m.
-unfoldable pub advance : Table → List Bool → List ℕ → List ℕ → State → Walked
+unfoldable pub advance : Table → List Mark → List ℕ → List ℕ → State → Walked
 advance t m is bs s = ticked (walk m bs is (release t (t .count) s))
 
 -- One step: the walk goes from the highest priority down with the table's marks, step bytes bs in table order.
@@ -41,9 +42,9 @@ pub data Names (i : ℕ) : Answer → Type 0 where
   idles : Names i (IdleFor i)
 
 -- What an answer says of the thread that it names: it runs, or it is marked and does not.
-abbrev pub Says : List Bool → List ℕ → State → Answer → Type 0
+abbrev pub Says : List Mark → List ℕ → State → Answer → Type 0
 Says m bs s (Ran i) = runs (getD bs i 0) (progress s i) ≡ true
-Says m bs s (IdleFor i) = (getD m i false ≡ true) × (runs (getD bs i 0) (progress s i) ≡ false)
+Says m bs s (IdleFor i) = (is-set m i ≡ true) × (runs (getD bs i 0) (progress s i) ≡ false)
 Says m bs s Idle = Unit {0}
 
 -- How often thread i runs by an answer: once, or not.

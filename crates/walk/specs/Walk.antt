@@ -5,6 +5,8 @@ use mathlib.Core.Bool.{Bool, true, false, not}
 use lib.ListN.{getD}
 use lib.Dec.{eqb}
 use Rattle.basis.specs.Tests.{pick, and}
+use Rattle.table.specs.declared.Mark.{Mark}
+use Rattle.table.specs.Mark.{is-set}
 use Rattle.state.specs.State.{progress}
 use Rattle.state.specs.Methods.{pay, finish, count}
 use Rattle.state.specs.declared.Progress.{Progress}
@@ -26,13 +28,13 @@ walked a s = record { answer = a; state = s }
 
 -- 3. A thread that was heard pays in each of three cases: it runs and is chosen; it waits and is chosen if marked (marks m), and the
 -- processor idles on its account; or the walk goes on (Idle).
-unfoldable pub decided : List Bool → ℕ → ℕ → State → Walked
+unfoldable pub decided : List Mark → ℕ → ℕ → State → Walked
 decided m b i s =
     pick (runs b (progress s i)) (walked (Ran i) (count (pay s i) i))
-    (pick (getD m i false) (walked (IdleFor i) (pay s i)) (walked Idle (pay s i)))
+    (pick (is-set m i) (walked (IdleFor i) (pay s i)) (walked Idle (pay s i)))
 
 -- The walk comes to thread i, whose byte is b: passed if its rest is 0. Idle says here that nobody is chosen yet.
-unfoldable pub visit : List Bool → ℕ → ℕ → State → Walked
+unfoldable pub visit : List Mark → ℕ → ℕ → State → Walked
 visit m b i s = pick (eqb (progress s i .rest) 0) (walked Idle s) (decided m b i (heard b i s))
 
 abbrev pub chosen : Answer → Bool
@@ -41,7 +43,7 @@ chosen (IdleFor i) = true
 chosen Idle = false
 
 -- 4. The walk over a list of thread numbers, up to the first that is chosen; if nobody is, the processor idles on nobody's account.
-unfoldable pub walk : List Bool → List ℕ → List ℕ → State → Walked
+unfoldable pub walk : List Mark → List ℕ → List ℕ → State → Walked
 walk m bs [] s = walked Idle s
 walk m bs (i ∷ is) s =
     pick (chosen (visit m (getD bs i 0) i s .answer)) (visit m (getD bs i 0) i s)

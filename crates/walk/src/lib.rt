@@ -10,6 +10,7 @@ ghost use Rattle.walk.specs.Step.{advance};
 use order::Ranks;
 use order::rank;
 use state::State;
+use table::Mark;
 use table::Table;
 use table::mark_all;
 
@@ -33,7 +34,7 @@ pub struct Walked {
 // What a table's steps need and share: the order of the walk and the leak marks.
 pub struct Prepared {
     pub order: Ranks,
-    pub marks: [bool; 32],
+    pub marks: [Mark; 32],
 }
 
 // The order and the marks of a table that is known to be legal.

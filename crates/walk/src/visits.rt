@@ -11,6 +11,7 @@ use super::Walked;
 use order::Ranks;
 use state::Progress;
 use state::State;
+use table::Mark;
 
 // Whether a reached thread with this byte and progress runs.
 fn runs(b: u8, p: Progress) -> bool
@@ -34,7 +35,7 @@ fn is_chosen(a: Answer) -> bool
 }
 
 // A thread that was heard pays, and runs, or the processor idles on its account, or the walk goes on.
-fn decide(marks: [bool; 32], s: State, i: u8, b: u8) -> Walked
+fn decide(marks: [Mark; 32], s: State, i: u8, b: u8) -> Walked
     requires { ⌜ (i < 32) × (0 < progress s i .rest) × Counted 999999999 s ⌝ }
     ensures { λ r. ⌜ r ≡ decided marks b i s ⌝ }
 {
@@ -47,7 +48,8 @@ fn decide(marks: [bool; 32], s: State, i: u8, b: u8) -> Walked
             state: ran,
         };
     }
-    if marks[i as usize] {
+    let mark = marks[i as usize];
+    if mark.set {
         return Walked {
             answer: Answer::IdleFor(i),
             state: paid,
@@ -60,7 +62,7 @@ fn decide(marks: [bool; 32], s: State, i: u8, b: u8) -> Walked
 }
 
 // The walk comes to thread i, whose byte is b.
-fn visit(marks: [bool; 32], s: State, i: u8, b: u8) -> Walked
+fn visit(marks: [Mark; 32], s: State, i: u8, b: u8) -> Walked
     requires { ⌜ (i < 32) × Counted 999999999 s ⌝ }
     ensures { λ r. ⌜ r ≡ visit marks b i s ⌝ }
 {
@@ -78,7 +80,7 @@ fn visit(marks: [bool; 32], s: State, i: u8, b: u8) -> Walked
 }
 
 // The walk over the ranked threads, left at the first that is chosen.
-pub fn walk(marks: [bool; 32], s: State, o: Ranks, bytes: &[u8]) -> Walked
+pub fn walk(marks: [Mark; 32], s: State, o: Ranks, bytes: &[u8]) -> Walked
     requires { ⌜ (o .count ≤ 32) × Below (length (now bytes)) (ranked o) ⌝ }
     requires { ⌜ Counted 999999999 s × (length (now bytes) ≤ 32) ⌝ }
     ensures { λ r. ⌜ r ≡ the-walk marks (now (bytes .entry)) (ranked o) s ⌝ }

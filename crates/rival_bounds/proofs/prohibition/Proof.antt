@@ -40,8 +40,11 @@ mul-f c = search needs
 element-copy-out-f : tie.Need-element-copy-out-f Inv-loop μ-loop
 element-copy-out-f c = search needs
 
-array-read-prohibited-by : tie.Need-array-read-prohibited-by Inv-loop μ-loop
-array-read-prohibited-by c = search needs
+mul-m : tie.Need-mul-m Inv-loop μ-loop
+mul-m c = search needs
+
+array-copy-out-m : tie.Need-array-copy-out-m Inv-loop μ-loop
+array-copy-out-m c = search needs
 
 prohibited-by-requires : tie.Need-prohibited-by-requires Inv-loop μ-loop
 prohibited-by-requires c κs = search needs
@@ -77,7 +80,8 @@ prohibition-spec =
     loop-holds
     mul-f
     element-copy-out-f
-    array-read-prohibited-by
+    mul-m
+    array-copy-out-m
     prohibited-by-requires
     wrapping-add-u64-requires-2
     add-h

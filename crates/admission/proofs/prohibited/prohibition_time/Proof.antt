@@ -3,13 +3,12 @@ use Rattle.admission.specs.Prohibition.{stretch, prohibition}
 use Rattle.admission.proofs.SumLaws.{sum-next}
 use Rattle.admission.proofs.ProhibitionLaws.{prohibition-partial}
 use Rattle.table.specs.Threads.{thread}
-use Rattle.table.specs.Mark.{marked}
-use Rattle.table.proofs.MarkLaws.{marks-at}
+use Rattle.table.specs.Mark.{marked, is-set}
+use Rattle.table.proofs.MarkLaws.{set-exactly}
 use native.Mathlib.Nat.{le-antisymm}
 use native.Mathlib.Omega.{arith}
-use mathlib.Core.Bool.{Bool, false}
+use mathlib.Core.Bool.{Bool}
 use mathlib.Core.List.{List}
-use lib.ListN.{getD}
 use mathlib.Core.Path.{_≡_, _∙_, ap}
 use Prim.Native.Nat.{ℕ, _+_, _-_, _≤_}
 use borrow.Author.Needs.{needs}
@@ -19,6 +18,7 @@ use Rattle.admission.proofs.prohibited.prohibition_time.Reads as reads
 use Rattle.admission.proofs.prohibited.prohibition_time.Lts as lts
 use Rattle.admission.proofs.prohibited.stretch.Reads as stretch-reads
 use Rattle.table.proofs.mark_all.Reads as mark-all-reads
+use Rattle.table.specs.declared.Mark.{Mark}
 
 abbrev Inv-loop : tie.InvT-loop
 Inv-loop l t own marks sum₀ h₀ h-end so-far h = (h ≤ h-end) × (so-far ≡ sum h (λ k. stretch (thread t l) (marked t k) (thread t k)))
@@ -42,8 +42,11 @@ loop-holds c = (search needs, omega arith)
 cast-mark : tie.Need-cast-mark Inv-loop μ-loop
 cast-mark c = search needs
 
-array-read-mark : tie.Need-array-read-mark Inv-loop μ-loop
-array-read-mark c = search needs
+mul-mark : tie.Need-mul-mark Inv-loop μ-loop
+mul-mark c = search needs
+
+array-copy-out-mark : tie.Need-array-copy-out-mark Inv-loop μ-loop
+array-copy-out-mark c = search needs
 
 cast-upper : tie.Need-cast-upper Inv-loop μ-loop
 cast-upper c = search needs
@@ -56,23 +59,23 @@ element-copy-out-upper c = search needs
 
 stretch-requires : tie.Need-stretch-requires Inv-loop μ-loop
 stretch-requires c κs =
-    let s = c .before .before .before .before .before in
-    (s .pre .0 .threads _ (s .pre .1) .period-low, s .pre .0 .threads _ (c .before .loop-test .taken) .period-low)
+    let s = c .before .before .before .before .before .before in
+    (s .pre .0 .threads _ (s .pre .1) .period-low, s .pre .0 .threads _ (c .before .before .loop-test .taken) .period-low)
 
 -- What the thread at hand brings, by the table's own mark.
-brought : (c : tie.After-stretch Inv-loop μ-loop) → let s = c .before .before .before .before .before .before in
-    c .stretch .result ≡ stretch (thread (s .args .t1) (s .args .l)) (marked (s .args .t1) (c .before .before .before .loop .h)) (thread (s .args .t1) (c .before .before .before .loop .h))
+brought : (c : tie.After-stretch Inv-loop μ-loop) → let s = c .before .before .before .before .before .before .before in
+    c .stretch .result ≡ stretch (thread (s .args .t1) (s .args .l)) (marked (s .args .t1) (c .before .before .before .before .loop .h)) (thread (s .args .t1) (c .before .before .before .before .loop .h))
 brought c =
-    let s = c .before .before .before .before .before .before in
-    let h = c .before .before .before .loop .h in
+    let s = c .before .before .before .before .before .before .before in
+    let h = c .before .before .before .before .loop .h in
     c .stretch .ensures
     ∙ ap (λ (m : Bool). stretch (thread (s .args .t1) (s .args .l)) m (thread (s .args .t1) h))
-    (ap (λ (ms : List Bool). getD ms h false) (c .before .before .before .before .mark-all .ensures) ∙ marks-at (s .args .t1) h (c .before .before .loop-test .taken))
+    (ap (λ (ms : List Mark). is-set ms h) (c .before .before .before .before .before .mark-all .ensures) ∙ set-exactly (s .args .t1) h (c .before .before .before .loop-test .taken))
 
 add-sum : tie.Need-add-sum Inv-loop μ-loop
 add-sum c =
-    let s = c .before .before .before .before .before .before in
-    let l = c .before .before .before .loop in
+    let s = c .before .before .before .before .before .before .before in
+    let l = c .before .before .before .before .loop in
     let f : ℕ → ℕ = λ k. stretch (thread (s .args .t1) (s .args .l)) (marked (s .args .t1) k) (thread (s .args .t1) k) in
     omega (arith, prohibition-partial (s .args .t1) (s .pre .0) (s .args .l) (l .h + 1) (s .pre .1) (omega arith), sum-next f (l .h), l .inv .1, brought c)
 
@@ -84,8 +87,8 @@ loop-less c = search needs
 
 loop-again : tie.Need-loop-again Inv-loop μ-loop
 loop-again c =
-    let s = c .before .before .before .before .before .before in
-    let l = c .before .before .before .loop in
+    let s = c .before .before .before .before .before .before .before in
+    let l = c .before .before .before .before .loop in
     let f : ℕ → ℕ = λ k. stretch (thread (s .args .t1) (s .args .l)) (marked (s .args .t1) k) (thread (s .args .t1) k) in
     (search needs, omega (arith, sum-next f (l .h), l .inv .1, brought c))
 
@@ -104,7 +107,8 @@ prohibition-time-spec =
     mark-all-requires
     loop-holds
     cast-mark
-    array-read-mark
+    mul-mark
+    array-copy-out-mark
     cast-upper
     mul-upper
     element-copy-out-upper

@@ -16,7 +16,7 @@ returns c = sym (stretch-unmarked _ _ _ (not-true _ (c .if1 .taken)))
 returns-2 : tie.Need-returns-2
 returns-2 c =
     let a = c .before .before .before .before .args in
-    sym (stretch-other (a .own) (a .h) (a .mark) (omega arith))
+    sym (stretch-other (a .own) (a .h) (a .marked) (omega arith))
 
 cast-rounded-up : tie.Need-cast-rounded-up
 cast-rounded-up c = search needs
@@ -36,7 +36,7 @@ mul-result c = record { fits = rw (c .before .rounded-up .ensures) (product-fits
 returns-3 : tie.Need-returns-3
 returns-3 c =
     let a = c .before .before .before .before .before .before .before .before .args in
-    rw (c .before .rounded-up .ensures) (sym (stretch-above (a .own) (a .h) (a .mark) (not-false _ (c .before .before .before .before .before .before .before .if1 .left)) (omega arith)))
+    rw (c .before .rounded-up .ensures) (sym (stretch-above (a .own) (a .h) (a .marked) (not-false _ (c .before .before .before .before .before .before .before .if1 .left)) (omega arith)))
 
 pub stretch-spec : {M : Type 1} → statement M
 stretch-spec =

@@ -13,17 +13,20 @@ abbrev μ-loop : tie.MeasureT-loop
 loop-holds : tie.Need-loop-holds Inv-loop μ-loop
 loop-holds c = search needs
 
-array-read-if1 : tie.Need-array-read-if1 Inv-loop μ-loop
-array-read-if1 c = search needs
+mul-ours : tie.Need-mul-ours Inv-loop μ-loop
+mul-ours c = search needs
+
+array-copy-out-ours : tie.Need-array-copy-out-ours Inv-loop μ-loop
+array-copy-out-ours c = search needs
+
+mul-theirs : tie.Need-mul-theirs Inv-loop μ-loop
+mul-theirs c = search needs
+
+array-copy-out-theirs : tie.Need-array-copy-out-theirs Inv-loop μ-loop
+array-copy-out-theirs c = search needs
 
 wrapping-add-u32-requires : tie.Need-wrapping-add-u32-requires Inv-loop μ-loop
 wrapping-add-u32-requires c κs = search needs
-
-array-read-if2 : tie.Need-array-read-if2 Inv-loop μ-loop
-array-read-if2 c = search needs
-
-array-read-if2-2 : tie.Need-array-read-if2-2 Inv-loop μ-loop
-array-read-if2-2 c = search needs
 
 wrapping-add-u32-requires-2 : tie.Need-wrapping-add-u32-requires-2 Inv-loop μ-loop
 wrapping-add-u32-requires-2 c κs = search needs
@@ -47,10 +50,11 @@ compared-spec =
     Inv-loop
     μ-loop
     loop-holds
-    array-read-if1
+    mul-ours
+    array-copy-out-ours
+    mul-theirs
+    array-copy-out-theirs
     wrapping-add-u32-requires
-    array-read-if2
-    array-read-if2-2
     wrapping-add-u32-requires-2
     add-i
     loop-less

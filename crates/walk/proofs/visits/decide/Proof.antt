@@ -32,16 +32,19 @@ returns : tie.Need-returns
 unfolding pick decided pay
 returns c = simp (sym (c .before .before .runs .ensures) ∙ c .before .if1 .taken, c .before .before .before .pay .ensures, c .count .ensures)
 
-array-read-if2 : tie.Need-array-read-if2
-array-read-if2 c = search needs
+mul-mark : tie.Need-mul-mark
+mul-mark c = search needs
+
+array-copy-out-mark : tie.Need-array-copy-out-mark
+array-copy-out-mark c = search needs
 
 returns-2 : tie.Need-returns-2
 unfolding pick decided pay
-returns-2 c = simp (sym (c .before .before .runs .ensures) ∙ c .before .if1 .left, c .if2 .taken, c .before .before .before .pay .ensures)
+returns-2 c = simp (sym (c .before .before .before .runs .ensures) ∙ c .before .before .if1 .left, c .if2 .taken, c .before .before .before .before .pay .ensures)
 
 returns-3 : tie.Need-returns-3
 unfolding pick decided pay
-returns-3 c = simp (sym (c .before .before .runs .ensures) ∙ c .before .if1 .left, c .if2 .left, c .before .before .before .pay .ensures)
+returns-3 c = simp (sym (c .before .before .before .runs .ensures) ∙ c .before .before .if1 .left, c .if2 .left, c .before .before .before .before .pay .ensures)
 
 pub decide-spec : {M : Type 1} → statement M
 decide-spec =
@@ -53,6 +56,7 @@ decide-spec =
     runs-requires
     count-requires
     returns
-    array-read-if2
+    mul-mark
+    array-copy-out-mark
     returns-2
     returns-3)

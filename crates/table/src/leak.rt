@@ -4,7 +4,9 @@ ghost use mathlib.Core.Bool.{not};
 ghost use Prim.Native.Nat.{_/_, _%_, _^_, _≤_, _<_};
 ghost use lib.Dec.{eqb, ltb};
 ghost use Rattle.basis.specs.Tests.{and};
-ghost use Rattle.table.specs.Mark.{marked, marks-of};
+ghost use Rattle.basis.specs.Search.{nothing};
+ghost use Rattle.table.specs.Mark.{protects, mark, marks-of};
+use super::Mark;
 use super::Table;
 use super::Thread;
 use flow::bit;
@@ -20,9 +22,20 @@ fn hides(row: u16, a: Thread, b: Thread) -> bool
     !bit(row, b.domain)
 }
 
-fn is_marked(t: Table, i: u8) -> bool
+// No mark: nobody needs one.
+pub fn no_mark() -> Mark
+    ensures { λ r. ⌜ r ≡ mark nothing ⌝ }
+{
+    Mark {
+        set: false,
+        thread: 0,
+    }
+}
+
+// The mark of thread i, with the first thread that needs it.
+fn mark_of(t: Table, i: u8) -> Mark
     requires { ⌜ (i < 32) × (t .count ≤ 32) ⌝ }
-    ensures { λ r. ⌜ r ≡ marked t i ⌝ }
+    ensures { λ r. ⌜ r ≡ mark (protects t i) ⌝ }
 {
     let a = t.threads[i as usize];
     let rows = t.rows;
@@ -30,20 +43,24 @@ fn is_marked(t: Table, i: u8) -> bool
     for j in 0..t.count {
         let b = t.threads[j as usize];
         if hides(flow, a, b) {
-            return true;
+            return Mark {
+                set: true,
+                thread: j,
+            };
         }
     }
-    false
+    no_mark()
 }
 
 // The mark of each thread of a table that is known to be legal.
-pub fn mark_all(t: Table) -> [bool; 32]
+pub fn mark_all(t: Table) -> [Mark; 32]
     requires { ⌜ t .count ≤ 32 ⌝ }
     ensures { λ r. ⌜ r ≡ marks-of t ⌝ }
 {
-    let mut out = [false; 32];
+    let none = no_mark();
+    let mut out = [none; 32];
     for i in 0..t.count {
-        out[i as usize] = is_marked(t, i);
+        out[i as usize] = mark_of(t, i);
     }
     out
 }

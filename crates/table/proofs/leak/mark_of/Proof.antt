@@ -1,24 +1,26 @@
 use Rattle.flow.specs.Flow.{flows}
-use Rattle.table.specs.Mark.{hidden-below, seen-by, marked}
-use Rattle.basis.proofs.TestLaws.{by-test, some-none, some-next, some-hit, some-end}
-use Rattle.basis.specs.Tests.{and, some}
+use Rattle.table.specs.Mark.{hidden-below, seen-by, protects, mark}
+use Rattle.basis.proofs.TestLaws.{by-test}
+use Rattle.basis.proofs.SearchLaws.{first-none, first-next, first-hit, first-end}
+use Rattle.basis.specs.Tests.{pick, and}
+use Rattle.basis.specs.Search.{Sought, nothing, found, first}
 use Rattle.table.specs.Threads.{thread}
 use Rattle.table.specs.declared.Table.{Table}
 use lib.Dec.{eqb, ltb}
 use lib.ListN.{getD}
 use mathlib.Core.Bool.{false, not}
-use mathlib.Core.Path.{_≡_, sym, _∙_}
+use mathlib.Core.Path.{_≡_, sym, _∙_, ap}
 use Prim.Native.Nat.{ℕ, _-_, _/_, _%_, _^_, _≤_}
 use borrow.Author.Needs.{needs}
-use Rattle.table.proofs.mark.is_marked.Statement.{statement}
-use Rattle.table.proofs.mark.is_marked.Tie as tie
-use Rattle.table.proofs.mark.is_marked.Reads as reads
-use Rattle.table.proofs.mark.is_marked.Lts as lts
+use Rattle.table.proofs.leak.mark_of.Statement.{statement}
+use Rattle.table.proofs.leak.mark_of.Tie as tie
+use Rattle.table.proofs.leak.mark_of.Reads as reads
+use Rattle.table.proofs.leak.mark_of.Lts as lts
 use Rattle.flow.proofs.row.Reads as row-reads
-use Rattle.table.proofs.mark.hides.Reads as hides-reads
+use Rattle.table.proofs.leak.hides.Reads as hides-reads
 
 abbrev Inv-loop : tie.InvT-loop
-Inv-loop i t a flow j₀ j-end j = (j ≤ j-end) × (some j (hidden-below t i) ≡ false)
+Inv-loop i t a flow j₀ j-end j = (j ≤ j-end) × (first j (λ k. pick (hidden-below t i k) (found k) nothing) ≡ nothing)
 
 abbrev μ-loop : tie.MeasureT-loop
 μ-loop i t a flow j₀ j-end j = j-end - j
@@ -33,7 +35,7 @@ row-requires : tie.Need-row-requires Inv-loop μ-loop
 row-requires c κs = search needs
 
 loop-holds : tie.Need-loop-holds Inv-loop μ-loop
-loop-holds c = (search needs, some-none _)
+loop-holds c = (search needs, first-none _)
 
 cast-b : tie.Need-cast-b Inv-loop μ-loop
 cast-b c = search needs
@@ -63,8 +65,11 @@ hidden : (c : tie.After-hides Inv-loop μ-loop)
 hidden c = (rw (c .before .before .before .before .row .ensures) at (c .hides .ensures)) ∙ hidden-same _ _ _
 
 returns : tie.Need-returns Inv-loop μ-loop
-unfolding marked
-returns c = sym (some-hit _ _ _ (sym (hidden (c .before)) ∙ c .if1 .taken) (c .before .before .before .loop-test .taken))
+unfolding protects pick
+returns c =
+    let l = c .before .before .before .before in
+    let f : ℕ → Sought ℕ = λ k. pick (hidden-below (l .before .before .before .before .args .t1) (l .before .before .before .before .args .i) k) (found k) nothing in
+    ap mark (sym (first-hit f _ _ _ (l .loop .inv .1) (rw (sym (hidden (c .before)) ∙ c .if1 .taken)) (c .before .before .before .loop-test .taken)))
 
 add-j : tie.Need-add-j Inv-loop μ-loop
 add-j c = search needs
@@ -73,14 +78,20 @@ loop-less : tie.Need-loop-less Inv-loop μ-loop
 loop-less c = search needs
 
 loop-again : tie.Need-loop-again Inv-loop μ-loop
-loop-again c = let l = c .before .before .before .before in (search needs, some-next _ _ (l .loop .inv .1) (sym (hidden (c .before)) ∙ c .if1 .left))
+unfolding pick
+loop-again c = let l = c .before .before .before .before in (search needs, first-next _ _ (l .loop .inv .1) (rw (sym (hidden (c .before)) ∙ c .if1 .left)))
+
+no-mark-requires : tie.Need-no-mark-requires Inv-loop μ-loop
+no-mark-requires c κs = search needs
 
 returns-2 : tie.Need-returns-2 Inv-loop μ-loop
-unfolding marked
-returns-2 c = sym (some-end _ _ _ (c .before .loop .inv .1) (c .before .loop .inv .0) (c .loop-test .left))
+unfolding protects
+returns-2 c =
+    let l = c .before .before in
+    c .no-mark .ensures ∙ ap mark (sym (first-end _ _ _ (l .loop .inv .1) (l .loop .inv .0) (c .before .loop-test .left)))
 
-pub is-marked-spec : {M : Type 1} → statement M
-is-marked-spec =
+pub mark-of-spec : {M : Type 1} → statement M
+mark-of-spec =
     tie.close
     (tie.spec
     Inv-loop
@@ -97,4 +108,5 @@ is-marked-spec =
     add-j
     loop-less
     loop-again
+    no-mark-requires
     returns-2)

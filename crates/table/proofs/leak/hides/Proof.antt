@@ -1,9 +1,9 @@
 use borrow.Author.Tests.{le-ltb, lt-ltb}
 use borrow.Author.Needs.{needs}
-use Rattle.table.proofs.mark.hides.Statement.{statement}
-use Rattle.table.proofs.mark.hides.Tie as tie
-use Rattle.table.proofs.mark.hides.Reads as reads
-use Rattle.table.proofs.mark.hides.Lts as lts
+use Rattle.table.proofs.leak.hides.Statement.{statement}
+use Rattle.table.proofs.leak.hides.Tie as tie
+use Rattle.table.proofs.leak.hides.Reads as reads
+use Rattle.table.proofs.leak.hides.Lts as lts
 use Rattle.flow.proofs.bit.Reads as bit-reads
 
 returns : tie.Need-returns

@@ -1,0 +1,51 @@
+-- The walk asks of a mark whether it is set, and nothing else: whom a mark names changes no schedule.
+use Prim.Native.Nat.{ℕ, _-_}
+use mathlib.Core.Path.{_≡_, refl, sym, _∙_, ap}
+use mathlib.Core.List.{List, [], _∷_, _++_}
+use lib.ListN.{getD, replicate}
+use lib.Dec.{ltb}
+use borrow.Author.Tests.{ltb-true, ltb-false}
+use Rattle.basis.specs.Tests.{some}
+use Rattle.basis.specs.Search.{nothing, listed}
+use Rattle.basis.proofs.TestLaws.{by-test}
+use Rattle.basis.proofs.SearchLaws.{listed-at, listed-past}
+use Rattle.table.specs.Mark.{hidden-below, protects, mark, marks-of, is-set}
+use Rattle.table.specs.declared.Mark.{Mark}
+use Rattle.table.specs.declared.Table.{Table}
+use Rattle.table.proofs.MarkLaws.{marked-some, set-exactly}
+use Rattle.state.specs.Release.{release}
+use Rattle.state.specs.declared.State.{State}
+use Rattle.order.specs.Order.{order}
+use Rattle.walk.specs.Walk.{decided, visit, walk}
+use Rattle.walk.specs.Step.{advance, step}
+
+module _ (m n : List Mark) (same : (i : ℕ) → is-set m i ≡ is-set n i) where
+  visit-sets : (b i : ℕ) (s : State) → visit m b i s ≡ visit n b i s
+  unfolding visit decided
+  visit-sets b i s = rw (same i)
+
+  pub walk-sets : (bs is : List ℕ) (s : State) → walk m bs is s ≡ walk n bs is s
+  unfolding walk
+  walk-sets bs [] s = refl
+  walk-sets bs (i ∷ is) s = rw (visit-sets (getD bs i 0) i s, walk-sets bs is)
+
+-- A mark as it was before it named a thread: set where some thread of the table is barred and below, and with no name.
+abbrev bare : Table → ℕ → Mark
+bare t i = record { set = some (t .count) (hidden-below t i); thread = 0 }
+
+unfoldable pub bare-marks : Table → List Mark
+bare-marks t = listed (t .count) (bare t) ++ replicate (32 - t .count) (mark nothing)
+
+bare-same : (t : Table) (i : ℕ) → is-set (bare-marks t) i ≡ is-set (marks-of t) i
+unfolding bare-marks marks-of
+bare-same t i =
+    by-test (ltb i (t .count))
+    (λ e. ap (λ (m : Mark). m .set) (listed-at (bare t) (t .count) i (replicate (32 - t .count) (mark nothing)) (mark nothing) (ltb-true _ _ e))
+    ∙ sym (marked-some t i) ∙ sym (set-exactly t i (ltb-true _ _ e)))
+    (λ e. ap (λ (m : Mark). m .set) (listed-past (bare t) (t .count) (32 - t .count) i (mark nothing) (ltb-false _ _ e)
+    ∙ sym (listed-past (λ k. mark (protects t k)) (t .count) (32 - t .count) i (mark nothing) (ltb-false _ _ e))))
+
+-- The step by those marks is the step, of every table, from every state and for all bytes: the schedule stayed as it was.
+pub same-schedule : (t : Table) (bs : List ℕ) (s : State) → advance t (bare-marks t) (order t) bs s ≡ step t bs s
+unfolding step advance
+same-schedule t bs s = rw (walk-sets (bare-marks t) (marks-of t) (bare-same t) bs (order t) (release t (t .count) s))
