@@ -9,6 +9,7 @@ use dice::seldom;
 use scheduler::Progress;
 use scheduler::State;
 use std::num::wrapping_add_u32;
+use std::num::wrapping_sub_u16;
 use std::num::wrapping_sub_u32;
 use table::Table;
 use table::Thread;
@@ -46,15 +47,20 @@ fn clock(seed: u64, t: Table) -> u32 {
     if clock < LATEST { clock } else { 999999999 }
 }
 
-fn progress(seed: u64, budget: u16, clock: u32) -> Progress {
-    let rest = match below(seed, 6, 4) {
+// None, all or anything between.
+fn some_of(seed: u64, k: u32, all: u16) -> u16 {
+    match below(seed, k, 4) {
         0 => 0,
-        1 => budget,
-        _ => between(seed, 7, 0, budget),
-    };
+        1 => all,
+        _ => between(part(seed, k), 7, 0, all),
+    }
+}
+
+fn progress(seed: u64, f: Thread, clock: u32) -> Progress {
     let ran = below32(seed, 8, wrapping_add_u32(clock, 1));
     Progress {
-        rest,
+        rest: some_of(seed, 6, f.budget),
+        execution: some_of(seed, 15, wrapping_sub_u16(f.budget, f.blocking)),
         finished: seldom(seed, 9, 4),
         ran: if seldom(seed, 10, 4) { clock } else { ran },
     }
@@ -67,7 +73,7 @@ pub fn state(seed: u64, t: Table) -> State {
     s.clock = clock;
     for i in 0..count {
         let f = t.threads[i as usize % 32];
-        s.threads[i as usize % 32] = progress(part(seed, i as u32), f.budget, clock);
+        s.threads[i as usize % 32] = progress(part(seed, i as u32), f, clock);
     }
     s
 }

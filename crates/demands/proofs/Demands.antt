@@ -26,7 +26,8 @@ use Rattle.state.proofs.FitLaws.{fits-sound, fits-complete}
 use Rattle.state.proofs.ReleaseLaws.{release-at, at-release, before-offset, other-phases, past-deadline}
 use Rattle.walk.proofs.StepLaws.{step-clock, chosen-rested}
 use Rattle.walk.proofs.ReachedLaws.{runs-exactly, two-finishes, strange-waits}
-use Rattle.walk.proofs.CountLaws.{rest-stays, step-counts}
+use Rattle.walk.proofs.CountLaws.{rest-stays, step-counts, step-runs}
+use Rattle.walk.proofs.RunLaws.{runs-most, runs-rested}
 use Rattle.walk.proofs.PaidLaws.{pays-once, payments-most}
 use Rattle.walk.proofs.ChoiceLaws.{below-chosen, idle-only, chosen-first, chosen-says, reached-pay-one}
 use Rattle.scheduler.proofs.RefusalLaws.{number-exactly, refused-keeps, same-refusal, taken-steps}
@@ -111,6 +112,9 @@ demand-2-holds = record {
   payments-most = payments-most;
   rest-stays = rest-stays;
   step-counts = step-counts;
+  step-runs = step-runs;
+  runs-most = runs-most;
+  runs-rested = runs-rested;
   step-clock = step-clock;
   demands = demand-exactly;
   bounds = bound-exactly;

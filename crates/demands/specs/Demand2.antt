@@ -19,15 +19,15 @@ use Rattle.numeral.specs.NumberRules.{Bytes}
 use Rattle.reader.specs.Reader.{accepted, reading}
 use Rattle.writer.specs.Format.{bytes}
 use Rattle.writer.specs.Writer.{overlaid, writing, written}
-use Rattle.state.specs.State.{with-rest, progress, last-clock, Fits}
+use Rattle.state.specs.State.{with-rest, with-execution, progress, last-clock, Fits}
 use Rattle.state.specs.Release.{released, release, releases}
 use Rattle.state.specs.Methods.{finish}
 use Rattle.state.specs.declared.Progress.{Progress}
 use Rattle.state.specs.declared.State.{State}
 use Rattle.walk.specs.Walk.{heard, runs, visit}
 use Rattle.walk.specs.Step.{step, Rested, Names, Says, ran-by}
-use Rattle.walk.specs.Paid.{pays, payments}
-use Rattle.walk.specs.declared.Answer.the-variants.{Idle}
+use Rattle.walk.specs.Paid.{pays, payments, runs-of}
+use Rattle.walk.specs.declared.Answer.the-variants.{Ran, Idle}
 use Rattle.scheduler.specs.Taken.{took, taken}
 use Rattle.scheduler.specs.Calls.{Whole-steps, calls, steps}
 use Rattle.admission.specs.Bounded.{bound, Is-bound, No-bound}
@@ -55,19 +55,20 @@ pub record Demand-2 : Type 0 where
       → taken t bs s ≡ took (step t bs s)
   pub run-steps : (t : Table) → legal t ≡ true → (a : List (List ℕ)) → Whole-steps t a → (s : State) → Fits t s
       → s .clock + length a ≤ last-clock → calls t a s ≡ map took (steps t a s)
-  -- The release, of every thread: phase 0 sets the rest to W and clears the mark; before O, and in other phases below D, nothing happens;
-  -- from D on the rest is 0.
+  -- The release, of every thread: phase 0 sets the rest to W and the rest of execution to W - B and clears the mark; before O, and in
+  -- other phases below D, nothing happens; from D on both rests are 0.
   pub release-each : (t : Table) (n : ℕ) (s : State) (i : ℕ) → i < n → n ≤ length (s .threads)
       → progress (release t n s) i ≡ released (thread t i) (s .clock) (progress s i)
   pub at-release : (th : Thread) (c : ℕ) (p : Progress) → th .offset ≤ c → (c - th .offset) % th .period ≡ 0
-      → (released th c p .rest ≡ th .budget) × (released th c p .finished ≡ false) × (released th c p .ran ≡ p .ran)
+      → (released th c p .rest ≡ th .budget) × (released th c p .execution ≡ th .budget - th .blocking)
+      × (released th c p .finished ≡ false) × (released th c p .ran ≡ p .ran)
   pub before-offset : (th : Thread) (c : ℕ) (p : Progress) → c < th .offset → released th c p ≡ p
   pub other-phases : (th : Thread) (c : ℕ) (p : Progress) → th .offset ≤ c → (c - th .offset) % th .period ≢ 0
       → (c - th .offset) % th .period < th .deadline → released th c p ≡ p
   pub past-deadline : (th : Thread) (c : ℕ) (p : Progress) → th .offset ≤ c → (c - th .offset) % th .period ≢ 0
-      → th .deadline ≤ (c - th .offset) % th .period → released th c p ≡ with-rest 0 p
-  -- A thread runs by the byte 1, unless its finish mark is set; 2 sets the mark; every other byte acts as 0.
-  pub runs-exactly : (b : ℕ) (p : Progress) → (runs b p ≡ true) ↔ ((b ≡ 1) × (p .finished ≡ false))
+      → th .deadline ≤ (c - th .offset) % th .period → released th c p ≡ with-execution 0 (with-rest 0 p)
+  -- A thread runs by the byte 1, unless its finish mark is set or it has no execution left; 2 sets the mark; every other byte acts as 0.
+  pub runs-exactly : (b : ℕ) (p : Progress) → (runs b p ≡ true) ↔ ((b ≡ 1) × (p .finished ≡ false) × (0 < p .execution))
   pub two-finishes : (i : ℕ) (s : State) → heard 2 i s ≡ finish s i
   pub strange-waits : (m : List Mark) (b i : ℕ) (s : State) → b ≢ 1 → b ≢ 2 → visit m b i s ≡ visit m 0 i s
   -- The thread chosen had a rest, and it runs, or is marked and waits; above it no thread with a rest runs or is marked.
@@ -90,11 +91,20 @@ pub record Demand-2 : Type 0 where
   pub pays-once : (t : Table) (bs : List ℕ) (s : State) (i : ℕ) → pays t bs s i ≤ 1
   pub payments-most : (t : Table) (i : ℕ) (bs : List ℕ) (more : List (List ℕ)) (s : State) → i < t .count → Fits t s
       → ((c : ℕ) → s .clock < c → c ≤ s .clock + length more → releases t i c ≡ false) → payments t i (bs ∷ more) s ≤ thread t i .budget
-  -- A thread with no rest is passed and stays as it is; a count goes up by one exactly if its thread ran.
+  -- It runs W - B at most between two releases, whatever it sends, and never with no execution left.
+  pub runs-most : (t : Table) (i : ℕ) (bs : List ℕ) (more : List (List ℕ)) (s : State) → t .count ≤ 32 → i < t .count → Fits t s
+      → ((c : ℕ) → s .clock < c → c ≤ s .clock + length more → releases t i c ≡ false)
+      → runs-of t i (bs ∷ more) s ≤ thread t i .budget - thread t i .blocking
+  pub runs-rested : (t : Table) (bs : List ℕ) (s : State) (i : ℕ) → step t bs s .answer ≡ Ran i
+      → 0 < progress (release t (t .count) s) i .execution
+  -- A thread with no rest is passed and stays as it is; a count goes up by one exactly if its thread ran, and then its rest of execution
+  -- goes down by one.
   pub rest-stays : (t : Table) (bs : List ℕ) (s : State) (i : ℕ) → progress (release t (t .count) s) i .rest ≡ 0
       → progress (step t bs s .state) i ≡ progress (release t (t .count) s) i
   pub step-counts : (t : Table) (bs : List ℕ) (s : State) → t .count ≤ 32 → Fits t s → (i : ℕ) → i < t .count
       → progress (step t bs s .state) i .ran ≡ progress (release t (t .count) s) i .ran + ran-by i (step t bs s .answer)
+  pub step-runs : (t : Table) (bs : List ℕ) (s : State) (i : ℕ) → i < length (s .threads)
+      → progress (step t bs s .state) i .execution + ran-by i (step t bs s .answer) ≡ progress (release t (t .count) s) i .execution
   -- The clock goes up by one.
   pub step-clock : (t : Table) (bs : List ℕ) (s : State) → step t bs s .state .clock ≡ s .clock + 1
   -- The demand is W and the sum of what each thread brings; a bound is the smallest length from W to D whose demand is at most that

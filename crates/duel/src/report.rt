@@ -30,7 +30,7 @@ fn damage(tally: &Tally) {
     line(tally, 25, b" tables with a field just past its range\n");
     line(tally, 26, b" tables with a field of any value\n");
     line(tally, 27, b" tables with an unused place not zero\n");
-    line(tally, 30, b" states with a rest above the budget\n");
+    line(tally, 30, b" states with a rest above its budget\n");
     line(tally, 31, b" states with a count above the clock\n");
     line(tally, 32, b" states with a clock above 1,000,000,000\n");
     line(tally, 33, b" states with a clock of 1,000,000,000\n");

@@ -73,7 +73,7 @@ module _ (t : Table) (d : ℕ) where
   unfolding count
   hidden-pays m b i s v =
       reached-pays m b i s (Quiet t d (pay s i))
-      (record { gap = unseen-gap t d i v; alike = alike-kept t d counted counted-keeps (pay s i) i v })
+      (λ _. record { gap = unseen-gap t d i v; alike = alike-kept t d counted counted-keeps (pay s i) i v })
       (record { gap = idle-gap t d i; alike = alike-refl t d (pay s i) })
       (quiet-still (pay s i))
 

@@ -29,10 +29,10 @@ known =
     record { computed = marks-told example; by-hand = 0 ∷ 1 ∷ replicate 31 100 }
     -- K-2: E's ten answers
     ∷ record { computed = answers example waiting; by-hand = waited }
-    -- K-3: E with thread 0 sending 1 always: T0 four times, T1 three times, idle three times
+    -- K-3: E with thread 0 sending 1 always: T0 twice, I0 twice, T1 three times, idle three times
     ∷ record {
       computed = answers example (replicate 10 1);
-      by-hand = joined (replicate 4 (ran 0) ++ (replicate 3 (ran 1) ++ replicate 3 idle));
+      by-hand = joined (replicate 2 (ran 0) ++ (replicate 2 (idle-for 0) ++ (replicate 3 (ran 1) ++ replicate 3 idle)));
     }
     -- K-3: domain 0 is shown what it is shown in K-2
     ∷ record { computed = shown-to example 0 (replicate 10 1); by-hand = waited-shown }
@@ -64,8 +64,8 @@ known =
     -- K-9: T0, T1, T1, idle
     ∷ record { computed = answers short-deadlines (replicate 4 1); by-hand = joined (ran 0 ∷ ran 1 ∷ ran 1 ∷ idle ∷ []) }
     -- K-9: thread 1 loses its last step: its rest goes from 1 to 0, and its count stays
-    ∷ record { computed = state-after short-deadlines (replicate 3 1); by-hand = state (at 3 (left 0 false 1 ∷ left 1 false 2 ∷ [])) }
-    ∷ record { computed = state-after short-deadlines (replicate 4 1); by-hand = state (at 4 (left 0 false 1 ∷ left 0 false 2 ∷ [])) }
+    ∷ record { computed = state-after short-deadlines (replicate 3 1); by-hand = state (at 3 (left 0 0 false 1 ∷ left 1 1 false 2 ∷ [])) }
+    ∷ record { computed = state-after short-deadlines (replicate 4 1); by-hand = state (at 4 (left 0 0 false 1 ∷ left 0 0 false 2 ∷ [])) }
     -- K-10: step bytes 3 and 255 act as 0
     ∷ record { computed = answers example (1 ∷ 3 ∷ 255 ∷ 2 ∷ replicate 6 1); by-hand = waited }
     ∷ []

@@ -13,10 +13,10 @@ use Rattle.known.specs.Runs.{seen, gap, not-shown, joined, left, places,
 
 -- A state that fits E, and one with a rest above its budget.
 abbrev some : State
-some = at 5 (left 2 true 1 ∷ left 1 false 2 ∷ [])
+some = at 5 (left 2 1 true 1 ∷ left 1 2 false 2 ∷ [])
 
 abbrev misfit : State
-misfit = at 5 (left 5 true 1 ∷ left 1 false 2 ∷ [])
+misfit = at 5 (left 5 1 true 1 ∷ left 1 2 false 2 ∷ [])
 
 abbrev known : List Entry
 known =
@@ -37,9 +37,9 @@ known =
     -- 11, and before 15
     ∷ record { computed = shown row-too-many 0 (Ran 1); by-hand = not-shown 11 }
     ∷ record { computed = shown row-too-many 2 (Ran 1); by-hand = not-shown 11 }
-    -- of the state the rest, mark and count of each thread whose domain may flow to it, and zeros for the others
-    ∷ record { computed = shown-state example some 0; by-hand = 0 ∷ each (places (no-progress ∷ left 1 false 2 ∷ [])) }
-    ∷ record { computed = shown-state example some 1; by-hand = 0 ∷ each (places (left 2 true 1 ∷ left 1 false 2 ∷ [])) }
+    -- of the state both rests, the mark and the count of each thread whose domain may flow to it, and zeros for the others
+    ∷ record { computed = shown-state example some 0; by-hand = 0 ∷ each (places (no-progress ∷ left 1 2 false 2 ∷ [])) }
+    ∷ record { computed = shown-state example some 1; by-hand = 0 ∷ each (places (left 2 1 true 1 ∷ left 1 2 false 2 ∷ [])) }
     -- 11, 12, 15, each with zeros
     ∷ record { computed = shown-state row-too-many some 1; by-hand = 11 ∷ each (places []) }
     ∷ record { computed = shown-state example misfit 1; by-hand = 12 ∷ each (places []) }

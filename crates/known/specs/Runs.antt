@@ -7,7 +7,7 @@ use Rattle.basis.specs.Tests.{pick}
 use Rattle.basis.specs.Turns.{after}
 use Rattle.table.specs.declared.Table.{Table}
 use Rattle.example.specs.Example.{sent}
-use Rattle.state.specs.State.{no-progress, with-rest, with-finished, with-count, fresh}
+use Rattle.state.specs.State.{no-progress, with-rest, with-execution, with-finished, with-count, fresh}
 use Rattle.state.specs.declared.Progress.{Progress}
 use Rattle.state.specs.declared.State.{State}
 use Rattle.walk.specs.declared.Answer.{Answer}
@@ -48,9 +48,10 @@ abbrev pub joined : List (List ℕ) → List ℕ
 joined [] = []
 joined (x ∷ xs) = x ++ joined xs
 
--- A thread's rest, finish mark and count; a state by its clock and the threads that it begins with, zeros in the other places.
-abbrev pub left : ℕ → Bool → ℕ → Progress
-left rest mark n = with-rest rest (with-finished mark (with-count n no-progress))
+-- A thread's rest, rest of execution, finish mark and count; a state by its clock and the threads that it begins with, zeros in the
+-- other places.
+abbrev pub left : ℕ → ℕ → Bool → ℕ → Progress
+left rest execution mark n = with-rest rest (with-execution execution (with-finished mark (with-count n no-progress)))
 
 abbrev pub places : List Progress → List Progress
 places ps = ps ++ replicate (32 - length ps) no-progress
@@ -58,10 +59,10 @@ places ps = ps ++ replicate (32 - length ps) no-progress
 abbrev pub at : ℕ → List Progress → State
 at c ps = record { clock = c; threads = places ps }
 
--- A state as numbers: the clock, and the rest, the mark and the count of each of the 32 places.
+-- A state as numbers: the clock, and both rests, the mark and the count of each of the 32 places.
 abbrev pub each : List Progress → List ℕ
 each [] = []
-each (p ∷ ps) = p .rest ∷ pick (p .finished) 1 0 ∷ p .ran ∷ each ps
+each (p ∷ ps) = p .rest ∷ p .execution ∷ pick (p .finished) 1 0 ∷ p .ran ∷ each ps
 
 abbrev pub state : State → List ℕ
 state s = s .clock ∷ each (s .threads)

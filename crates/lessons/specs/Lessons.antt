@@ -16,7 +16,7 @@ use Rattle.table.specs.declared.Mark.{Mark}
 use Rattle.table.specs.declared.Table.{Table}
 use Rattle.table.specs.declared.Thread.{Thread}
 use Rattle.example.specs.Example.{table-of, task}
-use Rattle.state.specs.State.{with-rest, with-finished, progress, put, fits, fresh}
+use Rattle.state.specs.State.{with-rest, with-execution, with-finished, execution-budget, progress, put, fits, fresh}
 use Rattle.state.specs.Release.{released, release, releases}
 use Rattle.state.specs.Methods.{pay, count}
 use Rattle.state.specs.declared.Progress.{Progress}
@@ -225,7 +225,7 @@ unfoldable pub refill : Table → ℕ → State → State
 refill t zero s = s
 refill t (suc n) s =
     let p : Progress = progress s n in
-    let full : Progress = with-finished false (with-rest (p .rest + thread t n .budget) p) in
+    let full : Progress = with-finished false (with-execution (execution-budget (thread t n)) (with-rest (p .rest + thread t n .budget) p)) in
     put (refill t n s) n (pick (releases t n (s .clock)) full (released (thread t n) (s .clock) p))
 
 unfoldable pub refilling : Table → List ℕ → State → Walked
@@ -262,9 +262,38 @@ pub strange-byte-leaks : told-by (strange-byte .changed) strange-byte
 unfolding trace refusing-strange
 strange-byte-leaks = refl
 
+-- h. A runaway thread is stopped in the wrong way. Thread 0 may run one step of its two, and sends 1 at both; or it waits.
+abbrev runaway-above : Table
+runaway-above = table-of (3 ∷ 2 ∷ []) (task 1 30 4 0 2 4 1 ∷ plain 0 20 4 1 ∷ [])
+
+-- The visit, but a thread that would run with no execution left is stopped by f.
+unfoldable pub stopping : (State → ℕ → Walked) → List Mark → ℕ → ℕ → State → Walked
+stopping f m b i s =
+    let p : Progress = progress s i in
+    pick (and (ltb 0 (p .rest)) (and (and (eqb b 1) (not (p .finished))) (eqb (p .execution) 0))) (f s i) (visit m b i s)
+
+-- Its time is handed down: it pays, and the walk goes on, so thread 1 starts a step sooner than where thread 0 waits.
+abbrev runaway-handed-down : Lesson
+runaway-handed-down =
+    record { changed = call (visiting (stopping (λ s i. walked Idle (pay s i)))); table = runaway-above; domain = 0; one = running; other = waiting }
+
+pub runaway-handed-down-leaks : told-by (runaway-handed-down .changed) runaway-handed-down
+    ≡ (gap ∷ shown 1 ∷ gap ∷ []) ∷ (gap ∷ gap ∷ shown 1 ∷ []) ∷ []
+unfolding trace call walk-by visiting stopping
+runaway-handed-down-leaks = refl
+
+-- It does not pay: the processor idles on its account for ever, and thread 1 never starts.
+abbrev runaway-unpaid : Lesson
+runaway-unpaid =
+    record { changed = call (visiting (stopping (λ s i. walked (IdleFor i) s))); table = runaway-above; domain = 0; one = running; other = waiting }
+
+pub runaway-unpaid-leaks : told-by (runaway-unpaid .changed) runaway-unpaid ≡ (gap ∷ gap ∷ gap ∷ []) ∷ (gap ∷ gap ∷ shown 1 ∷ []) ∷ []
+unfolding trace call walk-by visiting stopping
+runaway-unpaid-leaks = refl
+
 -- By the right rules the domain is told the same of both runs; the table with a pair missing is refused.
 abbrev pub leaks : List Lesson
-leaks = pair-missing ∷ next-only ∷ flow-reversed ∷ unpaid-wait ∷ nobody-pays ∷ handed-down ∷ added ∷ strange-byte ∷ []
+leaks = pair-missing ∷ next-only ∷ flow-reversed ∷ unpaid-wait ∷ nobody-pays ∷ handed-down ∷ added ∷ strange-byte ∷ runaway-handed-down ∷ runaway-unpaid ∷ []
 
 pub right-rules : map (told-by taken) leaks
     ≡ map twice
@@ -275,6 +304,8 @@ pub right-rules : map (told-by taken) leaks
     ∷ (gap ∷ gap ∷ shown 1 ∷ [])
     ∷ (gap ∷ gap ∷ shown 1 ∷ [])
     ∷ (shown 0 ∷ gap ∷ shown 0 ∷ gap ∷ [])
+    ∷ (gap ∷ gap ∷ shown 1 ∷ [])
+    ∷ (gap ∷ gap ∷ shown 1 ∷ [])
     ∷ (gap ∷ gap ∷ shown 1 ∷ [])
     ∷ [])
 unfolding trace
@@ -337,6 +368,6 @@ differ-hidden t d (bs ∷ us) [] = false
 differ-hidden t d (bs ∷ us) (cs ∷ vs) =
     and (eqb (length bs) (length cs)) (and (every 32 (λ i. or (not (visible t d i)) (eqb (getD bs i 0) (getD cs i 0)))) (differ-hidden t d us vs))
 
-pub hidden-only : map (λ (l : Lesson). differ-hidden (l .table) (l .domain) (l .one) (l .other)) (leaks ++ passes) ≡ replicate 10 true
+pub hidden-only : map (λ (l : Lesson). differ-hidden (l .table) (l .domain) (l .one) (l .other)) (leaks ++ passes) ≡ replicate 12 true
 unfolding differ-hidden
 hidden-only = refl

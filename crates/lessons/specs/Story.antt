@@ -25,12 +25,15 @@ pub monitor-marked : take 3 (marks-of story) ≡ mark nothing ∷ mark nothing �
 unfolding trace
 monitor-marked = refl
 
--- It runs at clock 0 and waits from then on, or it never waits.
+-- It runs at clock 0, which is all that it may run, and waits from then on; it goes on asking to run; or it waits all the time.
 abbrev pub once : List ℕ
 once = 1 ∷ replicate 9 0
 
 abbrev pub always : List ℕ
 always = replicate 10 1
+
+abbrev pub never : List ℕ
+never = replicate 10 0
 
 -- What a run with these bytes of the monitor answers, and what the pitch loop's domain is told of it.
 abbrev answers : Call → List ℕ → List Told
@@ -56,13 +59,12 @@ pub handed-down : answers (call (marking no-marks)) once ≡ told (Ran 2 ∷ Ran
 unfolding trace call marking no-marks
 handed-down = refl
 
--- The pitch loop's domain is told the same whether the monitor waits or not; so it is whatever the monitor sends (`isolation/proofs/OnStory.antt`).
-pub pitch-ours : pitch-told taken once ∷ pitch-told taken always ∷ [] ≡ from-clock 4 ∷ from-clock 4 ∷ []
+-- The pitch loop's domain is told the same whether the monitor runs, would run on or waits; so it is whatever the monitor sends (`isolation/proofs/OnStory.antt`).
+pub pitch-ours : map (pitch-told taken) (once ∷ always ∷ never ∷ []) ≡ replicate 3 (from-clock 4)
 unfolding trace
 pitch-ours = refl
 
--- Handed down, its clock tells it that the monitor waits.
-pub pitch-handed-down : pitch-told (call (marking no-marks)) once ∷ pitch-told (call (marking no-marks)) always ∷ []
-    ≡ from-clock 1 ∷ from-clock 4 ∷ []
+-- Handed down, its clock tells it whether the monitor has run.
+pub pitch-handed-down : map (pitch-told (call (marking no-marks))) (once ∷ always ∷ never ∷ []) ≡ from-clock 1 ∷ from-clock 1 ∷ from-clock 0 ∷ []
 unfolding trace call marking no-marks
 pitch-handed-down = refl

@@ -23,6 +23,15 @@ fn late(clock: u32) -> State {
     s
 }
 
+// A fresh state but for thread 0's rest of execution.
+fn runaway() -> State {
+    let mut s = scheduler::fresh();
+    let mut p = s.threads[0];
+    p.execution = 3;
+    s.threads[0] = p;
+    s
+}
+
 fn say(number: u8) {
     io::print_decimal(1, number as u64);
 }
@@ -158,6 +167,11 @@ fn main() {
         late(1000000001),
         b"\x01\x01",
         b"example E at clock 1,000,000,001\n",
+    );
+    steps(
+        runaway(),
+        b"\x01\x01",
+        b"example E with 3 steps for thread 0 to run, where W - B is 2\n",
     );
     steps(scheduler::fresh(), b"\x01", b"example E with one byte\n");
     steps(

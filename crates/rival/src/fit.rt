@@ -5,14 +5,16 @@ use table::Table;
 // The last clock.
 pub const END: u32 = 1000000000;
 
-// A rest is at most W and a count at most the clock; a place past the last thread is zero and unmarked.
+// A rest is at most W, a rest of execution with B at most W, and a count at most the clock; a place past the last thread is zero and
+// unmarked.
 fn place_fits(t: Table, s: State, i: u8) -> bool {
     let p = s.threads[i as usize % 32];
     let f = t.threads[i as usize % 32];
     if i >= t.count {
-        return (p.rest == 0) & !p.finished & (p.ran == 0);
+        return (p.rest == 0) & (p.execution == 0) & !p.finished & (p.ran == 0);
     }
-    (p.rest <= f.budget) & (p.ran <= s.clock)
+    let share = p.execution as u32 + f.blocking as u32;
+    (p.rest <= f.budget) & (share <= f.budget as u32) & (p.ran <= s.clock)
 }
 
 pub fn fits(t: Table, s: State) -> bool {

@@ -47,11 +47,12 @@ pub fn showing(t: Table, s: State, domain: u8) -> u32 {
     0
 }
 
-// The rest, mark and count of each thread that the domain may see, and zeros for the others and on a refusal.
+// Both rests, mark and count of each thread that the domain may see, and zeros for the others and on a refusal.
 pub fn threads_shown(t: Table, s: State, domain: u8) -> [Progress; 32] {
     let refused = showing(t, s, domain) != 0;
     let none = Progress {
         rest: 0,
+        execution: 0,
         finished: false,
         ran: 0,
     };

@@ -21,7 +21,7 @@ fn last_release(f: Thread, now: u32) -> u32 {
     )
 }
 
-// A release sets the rest and clears the finish mark; D steps after it the rest is lost.
+// A release sets both rests and clears the finish mark; D steps after it both are lost.
 fn released(f: Thread, p: Progress, now: u32) -> Progress {
     let mut next = p;
     if now < f.offset as u32 {
@@ -30,9 +30,11 @@ fn released(f: Thread, p: Progress, now: u32) -> Progress {
     let last = last_release(f, now);
     if std::num::wrapping_add_u32(last, f.deadline as u32) <= now {
         next.rest = 0;
+        next.execution = 0;
     }
     if last == now {
         next.rest = f.budget;
+        next.execution = std::num::wrapping_sub_u16(f.budget, f.blocking);
         next.finished = false;
     }
     next

@@ -24,6 +24,7 @@ fn byte_of(bytes: &[u8], i: u8) -> u8 {
 fn paid(p: Progress, byte: u8) -> Progress {
     Progress {
         rest: std::num::wrapping_sub_u16(p.rest, 1),
+        execution: p.execution,
         finished: p.finished | (byte == 2),
         ran: p.ran,
     }
@@ -40,10 +41,11 @@ fn after(s: State, i: u8, p: Progress, over: bool, answer: Answer) -> Turn {
     }
 }
 
-// Thread i is reached with a rest above 0: a 1 runs, unless the finish mark is set.
+// Thread i is reached with a rest above 0: a 1 runs, unless the finish mark is set or no execution is left.
 fn reach(s: State, i: u8, byte: u8, leaks: bool) -> Turn {
     let mut p = paid(s.threads[i as usize % 32], byte);
-    if (byte == 1) & !p.finished {
+    if (byte == 1) & !p.finished & (p.execution != 0) {
+        p.execution = std::num::wrapping_sub_u16(p.execution, 1);
         p.ran = std::num::wrapping_add_u32(p.ran, 1);
         return after(s, i, p, true, Answer::Ran(i));
     }

@@ -28,7 +28,10 @@ pub fn same_table(a: Table, b: Table) -> bool {
 }
 
 fn same_progress(a: Progress, b: Progress) -> bool {
-    (a.rest == b.rest) & (a.finished == b.finished) & (a.ran == b.ran)
+    (a.rest == b.rest)
+        & (a.execution == b.execution)
+        & (a.finished == b.finished)
+        & (a.ran == b.ran)
 }
 
 pub fn same_state(a: State, b: State) -> bool {

@@ -120,7 +120,7 @@ pub fn table(seed: u64, t: Table, kind: u32) -> Table {
     u
 }
 
-// A state of kind: 0 a rest above the budget, 1 a count above the clock, 2 a clock above the last, 3 the last clock, 4 an unused
+// A state of kind: 0 a rest above the budget or a rest of execution above its share, 1 a count above the clock, 2 a clock above the last, 3 the last clock, 4 an unused
 // place not zero.
 pub fn state(seed: u64, t: Table, s: State, kind: u32) -> State {
     let mut u = s;
@@ -133,10 +133,18 @@ pub fn state(seed: u64, t: Table, s: State, kind: u32) -> State {
     let f = t.threads[i as usize % 32];
     let mut p = s.threads[i as usize % 32];
     match kind {
-        0 => p.rest = if much {
-            65535
+        0 => if seldom(seed, 15, 2) {
+            p.execution = if much {
+                65535
+            } else {
+                wrapping_add_u16(wrapping_sub_u16(f.budget, f.blocking), 1)
+            };
         } else {
-            wrapping_add_u16(f.budget, 1)
+            p.rest = if much {
+                65535
+            } else {
+                wrapping_add_u16(f.budget, 1)
+            };
         },
         1 => p.ran = if much {
             4294967295
@@ -145,9 +153,10 @@ pub fn state(seed: u64, t: Table, s: State, kind: u32) -> State {
         },
         2 => u.clock = if much { 4294967295 } else { 1000000001 },
         3 => u.clock = 1000000000,
-        _ => match below(seed, 14, 3) {
+        _ => match below(seed, 14, 4) {
             0 => p.rest = 1,
             1 => p.finished = true,
+            2 => p.execution = 1,
             _ => p.ran = 1,
         },
     }

@@ -14,7 +14,7 @@ use Rattle.basis.proofs.TestLaws.{both-ways, either, and-of, refuted}
 use Rattle.table.specs.Threads.{thread}
 use Rattle.table.specs.declared.Table.{Table}
 use Rattle.table.specs.declared.Thread.{Thread}
-use Rattle.state.specs.State.{with-rest, progress, Fits}
+use Rattle.state.specs.State.{with-rest, with-execution, progress, Fits}
 use Rattle.state.specs.Release.{at-phase, released, release, releases}
 use Rattle.state.specs.Given.{Each}
 use Rattle.state.specs.declared.Progress.{Progress}
@@ -65,11 +65,12 @@ released-ran th k p =
     let R : Progress → Type 0 = λ x. x .ran ≡ p .ran in
     both-ways R _ _ _ refl (both-ways R _ _ _ refl (both-ways R _ _ _ refl refl))
 
--- Phase 0 sets the rest to W, clears the finish mark and leaves the count.
+-- Phase 0 sets the rest to W and the rest of execution to W - B, clears the finish mark and leaves the count.
 pub at-release : (th : Thread) (c : ℕ) (p : Progress) → th .offset ≤ c → (c - th .offset) % th .period ≡ 0
-    → (released th c p .rest ≡ th .budget) × (released th c p .finished ≡ false) × (released th c p .ran ≡ p .ran)
+    → (released th c p .rest ≡ th .budget) × (released th c p .execution ≡ th .budget - th .blocking)
+    × (released th c p .finished ≡ false) × (released th c p .ran ≡ p .ran)
 unfolding released at-phase pick
-at-release th c p late start = rw (le-ltb _ _ late, eq-eqb _ _ start) (refl, refl, refl)
+at-release th c p late start = rw (le-ltb _ _ late, eq-eqb _ _ start) (refl, refl, refl, refl)
 
 -- Before O nothing happens, ..
 pub before-offset : (th : Thread) (c : ℕ) (p : Progress) → c < th .offset → released th c p ≡ p
@@ -82,9 +83,9 @@ pub other-phases : (th : Thread) (c : ℕ) (p : Progress) → th .offset ≤ c �
 unfolding released at-phase pick
 other-phases th c p late some early = rw (le-ltb _ _ late, ne-eqb _ _ some, lt-leb _ _ early)
 
--- .. and from D on the rest is 0, and mark and count stay.
+-- .. and from D on both rests are 0, and mark and count stay.
 pub past-deadline : (th : Thread) (c : ℕ) (p : Progress) → th .offset ≤ c → (c - th .offset) % th .period ≢ 0
-    → th .deadline ≤ (c - th .offset) % th .period → released th c p ≡ with-rest 0 p
+    → th .deadline ≤ (c - th .offset) % th .period → released th c p ≡ with-execution 0 (with-rest 0 p)
 unfolding released at-phase pick
 past-deadline th c p late some over = rw (le-ltb _ _ late, ne-eqb _ _ some, le-leb _ _ over)
 
@@ -94,18 +95,26 @@ pub rest-after-release : (t : Table) (s : State) (i : ℕ) → t .count ≤ 32 �
 rest-after-release t s i few f l late phase =
     rw (release-at t (t .count) s i l (rw (f .long) few)) (at-release (thread t i) (s .clock) (progress s i) late phase .0)
 
--- A clock that is no release of thread i leaves its rest or takes it away.
-released-spends : (t : Table) (i c : ℕ) (p : Progress) → releases t i c ≡ false → released (thread t i) c p .rest ≤ p .rest
-unfolding releases released at-phase
-released-spends t i c p n =
-    let R : Progress → Type 0 = λ x. x .rest ≤ p .rest in
-    either R (ltb c (thread t i .offset)) (λ e. le-refl _)
-    (λ e. either R (eqb ((c - thread t i .offset) % thread t i .period) 0)
-    (λ q. refuted (and-of (le-leb (thread t i .offset) c (ltb-false c (thread t i .offset) e)) q) n)
-    (λ q. both-ways R _ _ _ zero-le (le-refl _)))
+-- A clock that is no release of thread i leaves its progress, or takes both rests away; so what these do not raise is not raised.
+module _ (f : Progress → ℕ) (cut : (p : Progress) → f (with-execution 0 (with-rest 0 p)) ≤ f p) where
+  released-spends : (t : Table) (i c : ℕ) (p : Progress) → releases t i c ≡ false → f (released (thread t i) c p) ≤ f p
+  unfolding releases released at-phase
+  released-spends t i c p n =
+      let R : Progress → Type 0 = λ x. f x ≤ f p in
+      either R (ltb c (thread t i .offset)) (λ e. le-refl _)
+      (λ e. either R (eqb ((c - thread t i .offset) % thread t i .period) 0)
+      (λ q. refuted (and-of (le-leb (thread t i .offset) c (ltb-false c (thread t i .offset) e)) q) n)
+      (λ q. both-ways R _ _ _ (cut p) (le-refl _)))
+
+  spends : (t : Table) (i : ℕ) (s : State) → releases t i (s .clock) ≡ false → f (progress (release t (t .count) s) i) ≤ f (progress s i)
+  spends t i s n =
+      release-each t (λ k p. k ≡ i → f p ≤ f (progress s i)) s
+      (λ k p l h e. omega (arith, h e, released-spends t k (s .clock) p (rw e n)))
+      (t .count) (le-refl _) (record { at = λ k e. rw e (le-refl _) }) .at i refl
 
 pub release-spends : (t : Table) (i : ℕ) (s : State) → releases t i (s .clock) ≡ false → progress (release t (t .count) s) i .rest ≤ progress s i .rest
-release-spends t i s n =
-    release-each t (λ k p. k ≡ i → p .rest ≤ progress s i .rest) s
-    (λ k p l h e. omega (arith, h e, released-spends t k (s .clock) p (rw e n)))
-    (t .count) (le-refl _) (record { at = λ k e. rw e (le-refl _) }) .at i refl
+release-spends = spends (λ p. p .rest) (λ p. zero-le)
+
+pub release-slows : (t : Table) (i : ℕ) (s : State) → releases t i (s .clock) ≡ false
+    → progress (release t (t .count) s) i .execution ≤ progress s i .execution
+release-slows = spends (λ p. p .execution) (λ p. zero-le)

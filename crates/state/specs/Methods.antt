@@ -1,7 +1,7 @@
 -- What the methods on the state do, each to one thread or to the clock.
 use Prim.Native.Nat.{ℕ, _+_, _-_}
 use mathlib.Core.Bool.{true}
-use Rattle.state.specs.State.{with-rest, with-finished, with-count, progress, put}
+use Rattle.state.specs.State.{with-rest, with-execution, with-finished, with-count, progress, put}
 use Rattle.state.specs.declared.Progress.{Progress}
 use Rattle.state.specs.declared.State.{State}
 
@@ -19,9 +19,9 @@ done p = with-finished true p
 unfoldable pub finish : State → ℕ → State
 finish s i = put s i (done (progress s i))
 
--- The count of a thread that runs goes up by one.
+-- The count of a thread that runs goes up by one, and its rest of execution down.
 abbrev pub counted : Progress → Progress
-counted p = with-count (p .ran + 1) p
+counted p = with-execution (p .execution - 1) (with-count (p .ran + 1) p)
 
 unfoldable pub count : State → ℕ → State
 count s i = put s i (counted (progress s i))

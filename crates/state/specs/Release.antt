@@ -6,13 +6,16 @@ use Rattle.basis.specs.Tests.{pick, and}
 use Rattle.table.specs.Threads.{thread}
 use Rattle.table.specs.declared.Table.{Table}
 use Rattle.table.specs.declared.Thread.{Thread}
-use Rattle.state.specs.State.{with-rest, with-finished, progress, put}
+use Rattle.state.specs.State.{with-rest, with-execution, with-finished, execution-budget, progress, put}
 use Rattle.state.specs.declared.Progress.{Progress}
 use Rattle.state.specs.declared.State.{State}
 
--- Phase 0 sets the rest to W and clears the finish mark, phase D or more sets the rest to 0, other phases change nothing.
+-- Phase 0 sets the rest to W and the rest of execution to W - B and clears the finish mark, phase D or more sets both rests to 0, other
+-- phases change nothing.
 unfoldable pub at-phase : Thread → ℕ → Progress → Progress
-at-phase th f p = pick (eqb f 0) (with-finished false (with-rest (th .budget) p)) (pick (leb (th .deadline) f) (with-rest 0 p) p)
+at-phase th f p =
+    pick (eqb f 0) (with-finished false (with-execution (execution-budget th) (with-rest (th .budget) p)))
+    (pick (leb (th .deadline) f) (with-execution 0 (with-rest 0 p)) p)
 
 -- Before O nothing happens; from then on the phase is (clock - O) mod P.
 unfoldable pub released : Thread → ℕ → Progress → Progress

@@ -1,5 +1,5 @@
--- The state: a clock, and for each thread the rest of its budget, a finish mark and a count of steps run.
-use Prim.Native.Nat.{ℕ, _≤_, _<_}
+-- The state: a clock, and for each thread the rest of its budget, its rest of execution, a finish mark and a count of steps run.
+use Prim.Native.Nat.{ℕ, _-_, _≤_, _<_}
 use mathlib.Core.Path.{_≡_}
 use mathlib.Core.Bool.{Bool, false, not}
 use lib.ListN.{length, getD, set, replicate}
@@ -7,21 +7,25 @@ use lib.Dec.{eqb, ltb, leb}
 use Rattle.basis.specs.Tests.{pick, and, every}
 use Rattle.table.specs.Threads.{thread}
 use Rattle.table.specs.declared.Table.{Table}
+use Rattle.table.specs.declared.Thread.{Thread}
 use Rattle.state.specs.declared.Progress.{Progress}
 use Rattle.state.specs.declared.State.{State}
 
 -- A progress is written out here only: what stands in a place that is not in use, zero and unmarked, and one with another value for a field.
 abbrev pub no-progress : Progress
-no-progress = record { rest = 0; finished = false; ran = 0 }
+no-progress = record { rest = 0; execution = 0; finished = false; ran = 0 }
 
 abbrev pub with-rest : ℕ → Progress → Progress
-with-rest n p = record { rest = n; finished = p .finished; ran = p .ran }
+with-rest n p = record { rest = n; execution = p .execution; finished = p .finished; ran = p .ran }
+
+abbrev pub with-execution : ℕ → Progress → Progress
+with-execution n p = record { rest = p .rest; execution = n; finished = p .finished; ran = p .ran }
 
 abbrev pub with-finished : Bool → Progress → Progress
-with-finished b p = record { rest = p .rest; finished = b; ran = p .ran }
+with-finished b p = record { rest = p .rest; execution = p .execution; finished = b; ran = p .ran }
 
 abbrev pub with-count : ℕ → Progress → Progress
-with-count n p = record { rest = p .rest; finished = p .finished; ran = n }
+with-count n p = record { rest = p .rest; execution = p .execution; finished = p .finished; ran = n }
 
 -- The progress of thread i, and the state with another progress for it.
 abbrev pub progress : State → ℕ → Progress
@@ -38,11 +42,20 @@ fresh = record { clock = 0; threads = replicate 32 no-progress }
 abbrev pub last-clock : ℕ
 last-clock = 1000000000
 
--- The progress p of thread i fits at clock c: its rest is at most W, its count at most the clock; past the last thread it is zero and unmarked.
+-- How many steps a thread may run from one release to the next: W - B.
+abbrev pub execution-budget : Thread → ℕ
+execution-budget th = th .budget - th .blocking
+
+-- A thread's progress fits at clock c: its rest is at most W, its rest of execution at most W - B, its count at most the clock.
+unfoldable pub used-fits : Thread → ℕ → Progress → Bool
+used-fits th c p = and (leb (p .rest) (th .budget)) (and (leb (p .execution) (execution-budget th)) (leb (p .ran) c))
+
+-- What stands past the last thread is zero and unmarked.
+unfoldable pub unused-fits : Progress → Bool
+unused-fits p = and (eqb (p .rest) 0) (and (eqb (p .execution) 0) (and (not (p .finished)) (eqb (p .ran) 0)))
+
 unfoldable pub place-fits : Table → ℕ → ℕ → Progress → Bool
-place-fits t c i p =
-    pick (ltb i (t .count)) (and (leb (p .rest) (thread t i .budget)) (leb (p .ran) c))
-    (and (eqb (p .rest) 0) (and (not (p .finished)) (eqb (p .ran) 0)))
+place-fits t c i p = pick (ltb i (t .count)) (used-fits (thread t i) c p) (unused-fits p)
 
 unfoldable pub fits : Table → State → Bool
 fits t s = and (leb (s .clock) last-clock) (every 32 (λ i. place-fits t (s .clock) i (progress s i)))
@@ -50,6 +63,7 @@ fits t s = and (leb (s .clock) last-clock) (every 32 (λ i. place-fits t (s .clo
 -- The plain reading of a place that fits.
 pub record Place-fits (t : Table) (c i : ℕ) (p : Progress) : Type 0 where
   pub rest-high : i < t .count → p .rest ≤ thread t i .budget
+  pub execution-high : i < t .count → p .execution ≤ execution-budget (thread t i)
   pub ran-high : p .ran ≤ c
   pub unused : t .count ≤ i → p ≡ no-progress
 

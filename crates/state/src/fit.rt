@@ -1,33 +1,59 @@
 // The test that a state fits its table.
 ghost use mathlib.Core.Path.{_≡_};
-ghost use mathlib.Core.Bool.{not};
-ghost use lib.Dec.{eqb, leb};
-ghost use Rattle.basis.specs.Tests.{pick, and};
-ghost use Rattle.state.specs.State.{fits};
+ghost use Rattle.basis.specs.Tests.{pick};
+ghost use Rattle.state.specs.State.{execution-budget, used-fits, unused-fits, fits};
 use super::Progress;
 use super::State;
 use table::Table;
 use table::Thread;
 
-// Whether a progress fits its place at a clock: a thread's, or one that is not in use.
-fn place_fits(th: Thread, used: bool, clock: u32, p: Progress) -> bool
-    ensures { λ r. ⌜ r
-        ≡ pick used (and (leb (p .rest) (th .budget)) (leb (p .ran) clock))
-        (and (eqb (p .rest) 0) (and (not (p .finished)) (eqb (p .ran) 0))) ⌝ }
+// How many steps a thread may run from one release to the next: W - B.
+pub fn execution_budget(th: Thread) -> u16
+    ensures { λ r. ⌜ r ≡ execution-budget th ⌝ }
 {
-    if used {
-        if th.budget < p.rest {
-            return false;
-        }
-        return p.ran <= clock;
+    if th.budget < th.blocking {
+        return 0;
     }
+    th.budget - th.blocking
+}
+
+// Whether a thread's progress fits at a clock.
+fn used_fits(th: Thread, clock: u32, p: Progress) -> bool
+    ensures { λ r. ⌜ r ≡ used-fits th clock p ⌝ }
+{
+    if th.budget < p.rest {
+        return false;
+    }
+    if execution_budget(th) < p.execution {
+        return false;
+    }
+    p.ran <= clock
+}
+
+// Whether what stands past the last thread is zero and unmarked.
+fn unused_fits(p: Progress) -> bool
+    ensures { λ r. ⌜ r ≡ unused-fits p ⌝ }
+{
     if p.rest != 0 {
+        return false;
+    }
+    if p.execution != 0 {
         return false;
     }
     if p.finished {
         return false;
     }
     p.ran == 0
+}
+
+// Whether a progress fits its place at a clock: a thread's, or one that is not in use.
+fn place_fits(th: Thread, used: bool, clock: u32, p: Progress) -> bool
+    ensures { λ r. ⌜ r ≡ pick used (used-fits th clock p) (unused-fits p) ⌝ }
+{
+    if used {
+        return used_fits(th, clock, p);
+    }
+    unused_fits(p)
 }
 
 pub fn fits(t: Table, s: State) -> bool

@@ -9,9 +9,10 @@ mod release;
 pub use fit::fits;
 pub use methods::no_progress;
 
-// The rest of a thread's budget, its finish mark and its count of steps run.
+// The rest of a thread's budget, its rest of execution, its finish mark and its count of steps run.
 pub struct Progress {
     pub rest: u16,
+    pub execution: u16,
     pub finished: bool,
     pub ran: u32,
 }

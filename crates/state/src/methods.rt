@@ -11,6 +11,7 @@ pub fn no_progress() -> Progress
 {
     Progress {
         rest: 0,
+        execution: 0,
         finished: false,
         ran: 0,
     }
@@ -39,13 +40,14 @@ impl State {
         self
     }
 
-    // Thread i ran one step more.
+    // Thread i ran one step more, and has one less to run.
     pub fn count(mut self, i: u8) -> State
-        requires { ⌜ (i < 32) × (progress self i .ran < last-clock) ⌝ }
+        requires { ⌜ (i < 32) × (progress self i .ran < last-clock) × (0 < progress self i .execution) ⌝ }
         ensures { λ r. ⌜ r ≡ count self i ⌝ }
     {
         let mut p = self.threads[i as usize];
         p.ran = p.ran + 1;
+        p.execution = p.execution - 1;
         self.threads[i as usize] = p;
         self
     }

@@ -5,6 +5,7 @@ ghost use Rattle.state.specs.Given.{Usable};
 ghost use Rattle.state.specs.Release.{released, release};
 use super::Progress;
 use super::State;
+use crate::fit::execution_budget;
 use table::Table;
 use table::Thread;
 
@@ -22,11 +23,13 @@ fn released(th: Thread, clock: u32, mut p: Progress) -> Progress
     let phase = (clock - offset) % period;
     if phase == 0 {
         p.rest = th.budget;
+        p.execution = execution_budget(th);
         p.finished = false;
         return p;
     }
     if deadline <= phase {
         p.rest = 0;
+        p.execution = 0;
         return p;
     }
     p

@@ -6,7 +6,7 @@ use mathlib.Core.Bool.{true, false, not, true≢false}
 use mathlib.Core.Logic.{_≢_, ⊎-elim}
 use native.Mathlib.Omega.{arith}
 use native.Mathlib.Nat.{lt-trans}
-use borrow.Author.Tests.{ne-eqb, eqb-true, eqb-false}
+use borrow.Author.Tests.{ne-eqb, eqb-true, eqb-false, lt-ltb}
 use lib.ListN.{length, getD, length-set}
 use lib.Seq.{getD-set-same, getD-set-other}
 use lib.Dec.{eqb}
@@ -33,12 +33,12 @@ use Rattle.walk.specs.declared.Answer.the-variants.{Ran, IdleFor, Idle}
 use Rattle.walk.specs.declared.Walked.{Walked}
 use Rattle.walk.specs.Paid.{pays}
 use Rattle.walk.proofs.WalkLaws.{visit-keeps, walk-on, walk-stop}
-use Rattle.walk.proofs.ReachedLaws.{reached-pays, marked-ends}
+use Rattle.walk.proofs.ReachedLaws.{reached-pays, marked-ends, runs-exactly}
 
 put-other : (s : State) (i k : ℕ) (p : Progress) → k ≢ i → progress (put s i p) k ≡ progress s k
 put-other s i k p d = getD-set-other (s .threads) i k p no-progress d
 
-put-same : (s : State) (i : ℕ) (p : Progress) → i < length (s .threads) → progress (put s i p) i ≡ p
+pub put-same : (s : State) (i : ℕ) (p : Progress) → i < length (s .threads) → progress (put s i p) i ≡ p
 put-same s i p l = getD-set-same (s .threads) i p no-progress l
 
 -- Threads of different priority are two.
@@ -73,10 +73,10 @@ module _ (m : List Mark) (b i : ℕ) (s : State) where
       both-ways P _ _ _ (nobody k) (both-ways P _ _ _ (own-run k i) (both-ways P _ _ _ (own-idle k i) (nobody k)))
 
 -- A reached thread that runs is chosen, and its count goes up by one.
-pub runs-chosen : (m : List Mark) (i : ℕ) (s : State) → 0 < progress s i .rest → progress s i .finished ≡ false
+pub runs-chosen : (m : List Mark) (i : ℕ) (s : State) → 0 < progress s i .rest → progress s i .finished ≡ false → 0 < progress s i .execution
     → visit m 1 i s ≡ walked (Ran i) (count (pay s i) i)
 unfolding visit decided heard runs pick
-runs-chosen m i s h f = rw (ne-eqb (progress s i .rest) 0 (λ e. omega arith), f)
+runs-chosen m i s h f x = rw (ne-eqb (progress s i .rest) 0 (λ e. omega arith), f, lt-ltb 0 (progress s i .execution) x)
 
 pub runs-counted : (i : ℕ) (s : State) → i < length (s .threads) → progress (count (pay s i) i) i .ran ≡ progress s i .ran + 1
 unfolding count pay
@@ -123,9 +123,8 @@ reached m b i s h = rw (ne-eqb (progress s i .rest) 0 (λ e. omega arith))
 running : (m : List Mark) (b i : ℕ) (s : State) → 0 < progress s i .rest → runs b (progress s i) ≡ true → chosen (visit m b i s .answer) ≡ true
 unfolding decided heard runs pick
 running m b i s h r =
-    let q = and-both (eqb b 1) (not (progress s i .finished)) r in
-    let one : b ≡ 1 = eqb-true b 1 (q .0) in
-    rw (reached m b i s h, one, q .1)
+    let q = runs-exactly b (progress s i) .0 r in
+    rw (reached m b i s h, q .0, q .1, lt-ltb 0 (progress s i .execution) (q .2))
 
 -- A visit that chooses nobody found no rest, or a thread that neither runs nor is marked.
 passed-over : (m : List Mark) (b i : ℕ) (s : State) → chosen (visit m b i s .answer) ≡ false → 0 < progress s i .rest
@@ -275,7 +274,7 @@ module _ (t : Table) (m : List Mark) (bs : List ℕ) where
   visit-takes b i s l h =
       let P : Walked → Type 0 = λ w. progress (w .state) i .rest + 1 ≡ progress s i .rest in
       rw (reached m b i s h)
-      (reached-pays m b i (heard b i s) P (omega (arith, counted-rest m b i s l)) (omega (arith, paid-rest m b i s l)) (omega (arith, paid-rest m b i s l)))
+      (reached-pays m b i (heard b i s) P (λ _. omega (arith, counted-rest m b i s l)) (omega (arith, paid-rest m b i s l)) (omega (arith, paid-rest m b i s l)))
 
   -- Every thread with a rest down to the one that a walk names, or all if it names nobody, pays one.
   walk-takes : (i p : ℕ) (is : List ℕ) (s : State) → Falling-from t p is → i < length (s .threads) → Stands i is → 0 < progress s i .rest

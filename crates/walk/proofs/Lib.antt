@@ -6,3 +6,4 @@ pub mod ReachedLaws
 pub mod ChoiceLaws
 pub mod CountLaws
 pub mod SameLaws
+pub mod RunLaws

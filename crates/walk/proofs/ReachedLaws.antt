@@ -1,11 +1,11 @@
 -- A reached thread: it pays whatever it says, and a marked one ends the walk. Demand 3 needs both.
-use Prim.Native.Nat.{ℕ}
+use Prim.Native.Nat.{ℕ, _<_}
 use mathlib.Core.Path.{_≡_, refl}
 use mathlib.Core.List.{List}
 use mathlib.Core.Bool.{true, false, not}
 use mathlib.Core.Logic.{_≢_, _↔_}
-use borrow.Author.Tests.{eqb-true, eq-eqb, ne-eqb, not-true}
-use lib.Dec.{eqb}
+use borrow.Author.Tests.{eqb-true, eq-eqb, ne-eqb, not-true, ltb-true, lt-ltb}
+use lib.Dec.{eqb, ltb}
 use Rattle.basis.specs.Tests.{pick, and}
 use Rattle.basis.proofs.TestLaws.{either, both-ways, refuted, and-both, and-of}
 use Rattle.table.specs.declared.Mark.{Mark}
@@ -20,10 +20,10 @@ use Rattle.walk.specs.declared.Walked.{Walked}
 
 module _ (m : List Mark) (b i : ℕ) (s : State) where
   -- It has paid in each of its three cases: it runs, the processor idles on its account, or the walk goes on.
-  pub reached-pays : (P : Walked → Type 0) → P (walked (Ran i) (count (pay s i) i)) → P (walked (IdleFor i) (pay s i)) → P (walked Idle (pay s i))
-      → P (decided m b i s)
+  pub reached-pays : (P : Walked → Type 0) → (runs b (progress s i) ≡ true → P (walked (Ran i) (count (pay s i) i))) → P (walked (IdleFor i) (pay s i))
+      → P (walked Idle (pay s i)) → P (decided m b i s)
   unfolding decided pay
-  reached-pays P runs-so idles-so goes-on = both-ways P _ _ _ runs-so (both-ways P _ _ _ idles-so goes-on)
+  reached-pays P runs-so idles-so goes-on = either P (runs b (progress s i)) runs-so (λ _. both-ways P _ _ _ idles-so goes-on)
 
   pub marked-ends : is-set m i ≡ true → chosen (decided m b i s .answer) ≡ true
   unfolding decided
@@ -31,12 +31,15 @@ module _ (m : List Mark) (b i : ℕ) (s : State) where
       let P : Walked → Type 0 = λ w. chosen (w .answer) ≡ true in
       either P (runs b (progress s i)) (λ _. refl) (λ _. either P (is-set m i) (λ _. refl) (λ n. refuted e n))
 
--- 1 runs, unless the finish mark is set; no other byte does.
-pub runs-exactly : (b : ℕ) (p : Progress) → (runs b p ≡ true) ↔ ((b ≡ 1) × (p .finished ≡ false))
+-- 1 runs, unless the finish mark is set or no execution is left; no other byte does.
+pub runs-exactly : (b : ℕ) (p : Progress) → (runs b p ≡ true) ↔ ((b ≡ 1) × (p .finished ≡ false) × (0 < p .execution))
 unfolding runs
 runs-exactly b p = (
-  λ e. let q = and-both (eqb b 1) (not (p .finished)) e in (eqb-true b 1 (q .0), not-true _ (q .1)),
-  λ h. and-of (eq-eqb b 1 (h .0)) (rw (h .1)),
+  λ e.
+      let q = and-both (eqb b 1) (and (not (p .finished)) (ltb 0 (p .execution))) e in
+      let r = and-both (not (p .finished)) (ltb 0 (p .execution)) (q .1) in
+      (eqb-true b 1 (q .0), not-true _ (r .0), ltb-true _ _ (r .1)),
+  λ h. and-of (eq-eqb b 1 (h .0)) (and-of {a = not (p .finished)} (rw (h .1)) (lt-ltb _ _ (h .2))),
 )
 
 -- 2 is finish; every byte but 1 and 2 acts as 0.

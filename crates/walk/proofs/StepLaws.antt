@@ -32,8 +32,14 @@ use Rattle.walk.proofs.WalkLaws.{Kept, passed-each, walk-each, walk-clo
 module _ (t : Table) (c : ℕ) where
   kept-fit : Kept (t .count) (Place-fits t c)
   kept-fit = record {
-    pays = λ i p l h. record { rest-high = λ u. omega (arith, h .rest-high u); ran-high = h .ran-high; unused = λ u. absurd (omega arith) };
-    finishes = λ i p l h. record { rest-high = h .rest-high; ran-high = h .ran-high; unused = λ u. absurd (omega arith) };
+    pays = λ i p l h. record {
+      rest-high = λ u. omega (arith, h .rest-high u);
+      execution-high = h .execution-high;
+      ran-high = h .ran-high;
+      unused = λ u. absurd (omega arith);
+    };
+    finishes = λ i p l h.
+        record { rest-high = h .rest-high; execution-high = h .execution-high; ran-high = h .ran-high; unused = λ u. absurd (omega arith) };
   }
 
 module _ (t : Table) (m : List Mark) (is bs : List ℕ) (s : State) where
@@ -48,7 +54,12 @@ module _ (t : Table) (m : List Mark) (is bs : List ℕ) (s : State) where
       let c = s .clock in
       let w : Each (Place-fits t (c + 1)) (walk m bs is (release t (t .count) s) .state)
       = walk-each m (t .count) (Place-fits t c) (kept-fit t c) (Place-fits t (c + 1)) (later-fits t c)
-      (λ i p l k. record { rest-high = k .rest-high; ran-high = omega (arith, k .ran-high); unused = λ u. absurd (omega arith) })
+      (λ i p l k. record {
+        rest-high = k .rest-high;
+        execution-high = λ u. omega (arith, k .execution-high u);
+        ran-high = omega (arith, k .ran-high);
+        unused = λ u. absurd (omega arith);
+      })
       bs is _ l (release-fits t s f) in
       record {
         clock-high = rw (walk-clock, release-clock) (omega arith);

@@ -3,7 +3,7 @@ use Prim.Native.Nat.{ℕ}
 use mathlib.Core.List.{List, [], _∷_}
 use mathlib.Core.Bool.{Bool, true, false, not}
 use lib.ListN.{getD}
-use lib.Dec.{eqb}
+use lib.Dec.{eqb, ltb}
 use Rattle.basis.specs.Tests.{pick, and}
 use Rattle.table.specs.declared.Mark.{Mark}
 use Rattle.table.specs.Mark.{is-set}
@@ -19,9 +19,9 @@ use Rattle.walk.specs.declared.Walked.{Walked}
 unfoldable pub heard : ℕ → ℕ → State → State
 heard b i s = pick (eqb b 2) (finish s i) s
 
--- 1 is run, every other byte is wait; a thread whose finish mark is set waits.
+-- 1 is run, every other byte is wait; a thread whose finish mark is set waits, and so does one that has no rest of execution left.
 unfoldable pub runs : ℕ → Progress → Bool
-runs b p = and (eqb b 1) (not (p .finished))
+runs b p = and (eqb b 1) (and (not (p .finished)) (ltb 0 (p .execution)))
 
 abbrev pub walked : Answer → State → Walked
 walked a s = record { answer = a; state = s }

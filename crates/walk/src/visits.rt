@@ -20,7 +20,10 @@ fn runs(b: u8, p: Progress) -> bool
     if b != 1 {
         return false;
     }
-    !p.finished
+    if p.finished {
+        return false;
+    }
+    0 < p.execution
 }
 
 // Whether the walk ends with this answer.

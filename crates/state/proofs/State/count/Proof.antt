@@ -1,4 +1,4 @@
--- `State::count` meets its contract: the one field changes, and the place is stored.
+-- `State::count` meets its contract: the two fields change, and the place is stored.
 use Rattle.state.specs.Methods.{count}
 use borrow.Author.Needs.{needs}
 use Rattle.state.proofs.State.count.Statement.{statement}
@@ -15,6 +15,9 @@ element-copy-out-p c = search needs
 add-p : tie.Need-add-p
 add-p c = search needs
 
+sub-p : tie.Need-sub-p
+sub-p c = search needs
+
 mul-p-2 : tie.Need-mul-p-2
 mul-p-2 c = search needs
 
@@ -26,4 +29,4 @@ unfolding count
 returns c = search needs
 
 pub count-spec : {M : Type 1} → statement M
-count-spec = tie.close (tie.spec mul-p element-copy-out-p add-p mul-p-2 element-set-from-p returns)
+count-spec = tie.close (tie.spec mul-p element-copy-out-p add-p sub-p mul-p-2 element-set-from-p returns)

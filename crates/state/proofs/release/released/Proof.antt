@@ -6,6 +6,7 @@ use Rattle.state.proofs.release.released.Statement.{statement}
 use Rattle.state.proofs.release.released.Tie as tie
 use Rattle.state.proofs.release.released.Reads as reads
 use Rattle.state.proofs.release.released.Lts as lts
+use Rattle.state.proofs.fit.execution_budget.Reads as execution-budget-reads
 
 cast-offset : tie.Need-cast-offset
 cast-offset c = search needs
@@ -23,9 +24,12 @@ returns c = simp (lt-ltb _ _ (c .if1 .taken))
 rem-phase : tie.Need-rem-phase
 rem-phase c = search needs
 
+execution-budget-requires : tie.Need-execution-budget-requires
+execution-budget-requires c κs = search needs
+
 returns-2 : tie.Need-returns-2
 unfolding pick released at-phase
-returns-2 c = simp (le-ltb _ _ (c .before .if1 .left), eq-eqb _ _ (c .if2 .taken))
+returns-2 c = simp (le-ltb _ _ (c .before .before .if1 .left), eq-eqb _ _ (c .before .if2 .taken), c .execution-budget .ensures)
 
 returns-3 : tie.Need-returns-3
 unfolding pick released at-phase
@@ -44,6 +48,7 @@ released-spec =
     cast-period
     returns
     rem-phase
+    execution-budget-requires
     returns-2
     returns-3
     returns-4)

@@ -2,7 +2,10 @@ use Rattle.walk.proofs.WalkLaws.{kept-counts, pay-each}
 use Rattle.walk.specs.Walk.{decided}
 use Rattle.state.specs.Methods.{pay}
 use Rattle.basis.specs.Tests.{pick}
-use mathlib.Core.Path.{sym, _∙_}
+use Prim.Native.Nat.{ℕ, _<_}
+use mathlib.Core.Path.{_≡_, refl, sym, _∙_}
+use Rattle.state.specs.State.{progress}
+use Rattle.walk.proofs.ReachedLaws.{runs-exactly}
 use native.Mathlib.Omega.{arith}
 use borrow.Author.Needs.{needs}
 use Rattle.walk.proofs.visits.decide.Statement.{statement}
@@ -26,7 +29,15 @@ runs-requires : tie.Need-runs-requires
 runs-requires c κs = search needs
 
 count-requires : tie.Need-count-requires
-count-requires c κs = let s = c .before .before .before .before in let h = pay-each 32 _ (kept-counts 32 999999999) (s .args .i) _ (s .pre .0) (s .pre .2) in (s .pre .0, rw (c .before .before .pay .ensures) (omega (arith, h .at (s .args .i))))
+count-requires c κs =
+    let s = c .before .before .before .before in
+    let i : ℕ = s .args .i in
+    let h = pay-each 32 _ (kept-counts 32 999999999) i _ (s .pre .0) (s .pre .2) in
+    let left : 0 < progress (s .args .t2) i .execution
+    = runs-exactly (s .args .b) (progress (s .args .t2) i) .0 (sym (c .before .runs .ensures) ∙ c .if1 .taken) .2 in
+    let g = pay-each 32 (λ k p. k ≡ i → 0 < p .execution) (record { pays = λ k p l u. u; finishes = λ k p l u. u }) i (s .args .t2) (s .pre .0)
+    (record { at = λ k e. rw e left }) in
+    (s .pre .0, rw (c .before .before .pay .ensures) (omega (arith, h .at i)), rw (c .before .before .pay .ensures) (g .at i refl))
 
 returns : tie.Need-returns
 unfolding pick decided pay
