@@ -7,7 +7,7 @@
 
 typedef struct { uint8_t domain, priority; uint16_t period, offset, budget, deadline, blocking; } thread;
 typedef struct { uint8_t domains, count; uint16_t rows[16]; thread threads[32]; } table;
-typedef struct { uint16_t rest; uint8_t finished; uint32_t ran; } progress;
+typedef struct { uint16_t rest, execution; uint8_t finished; uint32_t ran; } progress;
 typedef struct { uint32_t clock; progress threads[32]; } state;
 typedef struct { uint8_t order[32]; uint8_t marks[32]; } prepared;
 
@@ -97,7 +97,9 @@ static int fits(const table *t, const state *s) {
     if (s->clock > 1000000000) return 0;
     for (unsigned i = 0; i < 32; i++) {
         const progress *p = &s->threads[i];
-        if (i < t->count ? p->rest > t->threads[i].budget || p->ran > s->clock : p->rest || p->finished || p->ran) return 0;
+        const thread *th = &t->threads[i];
+        if (i < t->count ? p->rest > th->budget || p->execution > th->budget - th->blocking || p->ran > s->clock
+                         : p->rest || p->execution || p->finished || p->ran) return 0;
     }
     return 1;
 }
@@ -125,8 +127,8 @@ static unsigned step(const table *t, const prepared *q, state *s, const uint8_t 
         progress *p = &s->threads[i];
         if (s->clock < th->offset) continue;
         unsigned phase = (s->clock - th->offset) % th->period;
-        if (phase == 0) { p->rest = th->budget; p->finished = 0; }
-        else if (phase >= th->deadline) p->rest = 0;
+        if (phase == 0) { p->rest = th->budget; p->execution = th->budget - th->blocking; p->finished = 0; }
+        else if (phase >= th->deadline) p->rest = p->execution = 0;
     }
     s->clock++;
     for (unsigned k = 0; k < t->count; k++) {
@@ -135,7 +137,7 @@ static unsigned step(const table *t, const prepared *q, state *s, const uint8_t 
         if (p->rest == 0) continue;
         p->rest--;
         if (b[i] == 2) p->finished = 1;
-        if (b[i] == 1 && !p->finished) { p->ran++; return i; }
+        if (b[i] == 1 && !p->finished && p->execution) { p->execution--; p->ran++; return i; }
         if (q->marks[i]) return 32 + i;
     }
     return 64;

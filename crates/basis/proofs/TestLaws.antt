@@ -71,9 +71,13 @@ pub and-false : (a : Bool) → and a false ≡ false
 and-false true = refl
 and-false false = refl
 
-or-true : (a : Bool) → or a true ≡ true
+pub or-true : (a : Bool) → or a true ≡ true
 or-true true = refl
 or-true false = refl
+
+pub or-false : (a : Bool) → or a false ≡ a
+or-false true = refl
+or-false false = refl
 
 -- The steps of a loop over `every`: none yet, one more, the end, and the first that fails.
 pub every-none : (f : ℕ → Bool) → every 0 f ≡ true

@@ -23,13 +23,13 @@ use Rattle.state.specs.State.{no-progress}
 use Rattle.state.specs.declared.Progress.{Progress}
 use Rattle.state.specs.declared.State.{State}
 use Rattle.state.proofs.FitLaws.{fits-sound, fits-complete}
-use Rattle.state.proofs.ReleaseLaws.{release-at, at-release, before-offset, other-phases, past-deadline}
+use Rattle.state.proofs.ReleaseLaws.{releases-exactly, release-at, at-release, before-offset, other-phases, past-deadline}
 use Rattle.walk.proofs.StepLaws.{step-clock, chosen-rested}
 use Rattle.walk.proofs.ReachedLaws.{runs-exactly, two-finishes, strange-waits}
 use Rattle.walk.proofs.CountLaws.{rest-stays, step-counts, step-runs}
 use Rattle.walk.proofs.RunLaws.{runs-most, runs-rested}
 use Rattle.walk.proofs.PaidLaws.{pays-once, payments-most}
-use Rattle.walk.proofs.ChoiceLaws.{below-chosen, idle-only, chosen-first, chosen-says, reached-pay-one}
+use Rattle.walk.proofs.ChoiceLaws.{below-chosen, idle-only, chosen-first, chosen-says, reached-pay-one, reached-marks}
 use Rattle.scheduler.proofs.RefusalLaws.{number-exactly, refused-keeps, same-refusal, taken-steps}
 use Rattle.scheduler.proofs.CallLaws.{calls-steps}
 use Rattle.sight.specs.Shown.{showing-state, threads-shown}
@@ -109,6 +109,8 @@ demand-2-holds = record {
   reached-pay-one = reached-pay-one;
   below-chosen = below-chosen;
   pays-once = pays-once;
+  reached-marks = reached-marks;
+  releases-exactly = releases-exactly;
   payments-most = payments-most;
   rest-stays = rest-stays;
   step-counts = step-counts;

@@ -7,6 +7,8 @@ use mathlib.Core.List.{List, [], _∷_, map}
 use mathlib.Core.Logic.{_≢_, _↔_}
 use mathlib.Core.Bool.{true, false}
 use lib.ListN.{length, getD, take, drop}
+use lib.Dec.{eqb}
+use Rattle.basis.specs.Tests.{or}
 use Rattle.basis.specs.Search.{found, nothing}
 use Rattle.basis.specs.Told.{answered}
 use Rattle.table.specs.Threads.{thread}
@@ -87,6 +89,11 @@ pub record Demand-2 : Type 0 where
       → ((k : ℕ) → Names k (step t bs s .answer) → thread t k .priority ≤ thread t i .priority) → pays t bs s i ≡ 1
   pub below-chosen : (t : Table) (bs : List ℕ) (s : State) (i k : ℕ) → Names i (step t bs s .answer)
       → thread t k .priority < thread t i .priority → progress (step t bs s .state) k ≡ progress (release t (t .count) s) k
+  -- Of each of those that pay, the finish mark is set then if it was before or the byte is 2.
+  pub reached-marks : (t : Table) → Legal t → (bs : List ℕ) (s : State) → Fits t s → (i : ℕ) → i < t .count
+      → 0 < progress (release t (t .count) s) i .rest
+      → ((k : ℕ) → Names k (step t bs s .answer) → thread t k .priority ≤ thread t i .priority)
+      → progress (step t bs s .state) i .finished ≡ or (progress (release t (t .count) s) i .finished) (eqb (getD bs i 0) 2)
   -- So a thread pays one at most in a step, and between two releases W at most.
   pub pays-once : (t : Table) (bs : List ℕ) (s : State) (i : ℕ) → pays t bs s i ≤ 1
   pub payments-most : (t : Table) (i : ℕ) (bs : List ℕ) (more : List (List ℕ)) (s : State) → i < t .count → Fits t s
@@ -105,6 +112,8 @@ pub record Demand-2 : Type 0 where
       → progress (step t bs s .state) i .ran ≡ progress (release t (t .count) s) i .ran + ran-by i (step t bs s .answer)
   pub step-runs : (t : Table) (bs : List ℕ) (s : State) (i : ℕ) → i < length (s .threads)
       → progress (step t bs s .state) i .execution + ran-by i (step t bs s .answer) ≡ progress (release t (t .count) s) i .execution
+  -- A clock is a release exactly if it is at least O and its phase is 0.
+  pub releases-exactly : (t : Table) (i c : ℕ) → (releases t i c ≡ true) ↔ ((thread t i .offset ≤ c) × ((c - thread t i .offset) % thread t i .period ≡ 0))
   -- The clock goes up by one.
   pub step-clock : (t : Table) (bs : List ℕ) (s : State) → step t bs s .state .clock ≡ s .clock + 1
   -- The demand is W and the sum of what each thread brings; a bound is the smallest length from W to D whose demand is at most that

@@ -11,7 +11,6 @@ use borrow.Author.Tests.{eq-eqb, ne-eqb, lt-ltb, le-ltb, eqb-true, eqb-false, lt
 use Rattle.basis.specs.Tests.{pick}
 use Rattle.basis.specs.Search.{Sought, nothing, found}
 use Rattle.basis.proofs.TestLaws.{by-test, either}
-use Rattle.table.specs.declared.Mark.{Mark}
 use Rattle.table.specs.declared.Table.{Table}
 use Rattle.table.specs.Legal.{legal, Legal}
 use Rattle.table.specs.Mark.{Leaks, Protects, protects, mark, marks-given}
@@ -24,7 +23,7 @@ use Rattle.codec.proofs.RoundTrip.{accepted-exactly}
 use Rattle.admission.specs.Bounded.{bound, sought-told, bounding, Is-bound, No-bound}
 use Rattle.admission.specs.Admit.{or-zero}
 use Rattle.admission.proofs.BoundLaws.{bound-at, bound-none, is-of-bound, none-of-bound}
-use Rattle.host.specs.Host.{verdict, refusal, of-thread, mark-number, told-number, bound-number, thread-mark, thread-bound, Refuses, not-read, no-thread, Refused, Without-bound}
+use Rattle.host.specs.Host.{verdict, refusal, of-thread, mark-told, mark-number, told-number, bound-number, thread-mark, thread-bound, Refuses, not-read, no-thread, Refused, Without-bound}
 
 module _ (f : Table → ℕ → ℕ) (s : List ℕ) (i : ℕ) where
   pub unread : verdict s ≢ 0 → of-thread f s i ≡ refusal (verdict s)
@@ -65,21 +64,21 @@ module _ (f : Table → ℕ → ℕ) (s : List ℕ) (i : ℕ) (small : verdict s
     λ r. omega (arith, refused-only (r .refuses)),
   )
 
--- A mark as a number: the thread, or 255.
-abbrev mark-told : Sought ℕ → ℕ
-mark-told nothing = 255
-mark-told (found j) = j
+-- Whom a mark protects, as a number: the thread, or 255.
+abbrev or-255 : Sought ℕ → ℕ
+or-255 nothing = 255
+or-255 (found j) = j
 
-number-told : (s : Sought ℕ) → pick (mark s .set) (mark s .thread) 255 ≡ mark-told s
+number-told : (s : Sought ℕ) → mark-told (mark s) ≡ or-255 s
 unfolding pick
 number-told nothing = refl
 number-told (found j) = refl
 
-pub number-by : (t : Table) (i : ℕ) (s : Sought ℕ) → getD (marks-given t) i (mark nothing) ≡ mark s → mark-number t i ≡ mark-told s
+pub number-by : (t : Table) (i : ℕ) (s : Sought ℕ) → getD (marks-given t) i (mark nothing) ≡ mark s → mark-number t i ≡ or-255 s
 unfolding mark-number
-number-by t i s e = ap (λ (m : Mark). pick (m .set) (m .thread) 255) e ∙ number-told s
+number-by t i s e = ap mark-told e ∙ number-told s
 
-told-small : (t : Table) (i : ℕ) → t .count ≤ 32 → (s : Sought ℕ) → protects t i ≡ s → mark-told s < 100000
+told-small : (t : Table) (i : ℕ) → t .count ≤ 32 → (s : Sought ℕ) → protects t i ≡ s → or-255 s < 100000
 told-small t i h nothing e = omega arith
 told-small t i h (found j) e = omega (arith, protects-given t i j e .in-table)
 
@@ -163,11 +162,11 @@ module _ (s : List ℕ) (b : Bytes s) (i : ℕ) where
         ∙ ap or-zero (bound-none (reading s .table) i (w .none)),
   )
 
-named : (t : Table) (i j : ℕ) (s : Sought ℕ) → protects t i ≡ s → j < 32 → mark-told s ≡ j → protects t i ≡ found j
+named : (t : Table) (i j : ℕ) (s : Sought ℕ) → protects t i ≡ s → j < 32 → or-255 s ≡ j → protects t i ≡ found j
 named t i j nothing e h q = absurd (omega arith)
 named t i j (found k) e h q = e ∙ ap found q
 
-unnamed : (t : Table) (i : ℕ) (s : Sought ℕ) → t .count ≤ 32 → protects t i ≡ s → mark-told s ≡ 255 → protects t i ≡ nothing
+unnamed : (t : Table) (i : ℕ) (s : Sought ℕ) → t .count ≤ 32 → protects t i ≡ s → or-255 s ≡ 255 → protects t i ≡ nothing
 unnamed t i nothing h e q = e
 unnamed t i (found k) h e q = absurd (omega (arith, protects-given t i k e .in-table))
 
@@ -181,20 +180,20 @@ module _ (s : List ℕ) (b : Bytes s) (t : Table) (e : reading s ≡ accepted t)
   unfolding verdict
   about f = answering f s i (rw (verdict, e)) (rw e h) ∙ rw e
 
-  mark-by : thread-mark s i ≡ mark-told (protects t i)
+  mark-by : thread-mark s i ≡ or-255 (protects t i)
   unfolding thread-mark
   mark-by = about mark-number ∙ number-by t i (protects t i) (marks-given-at t i lawful h)
 
   pub mark-exactly : (j : ℕ) → j < 32 → (thread-mark s i ≡ j) ↔ Protects t i j
   mark-exactly j l = (
     λ q. protects-given t i j (named t i j (protects t i) refl l (sym mark-by ∙ q)),
-    λ p. mark-by ∙ ap mark-told (protects-only t i j p),
+    λ p. mark-by ∙ ap or-255 (protects-only t i j p),
   )
 
   pub mark-none-exactly : (thread-mark s i ≡ 255) ↔ (Leaks t i → ⊥)
   mark-none-exactly = (
     λ q. protects-none t i .0 (unnamed t i (protects t i) (legal-small t lawful .1) refl (sym mark-by ∙ q)),
-    λ n. mark-by ∙ ap mark-told (protects-none t i .1 n),
+    λ n. mark-by ∙ ap or-255 (protects-none t i .1 n),
   )
 
   pub bound-found : (x : ℕ) → Is-bound t i x → thread-bound s i ≡ x

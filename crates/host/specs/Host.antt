@@ -8,7 +8,8 @@ use lib.Dec.{eqb, ltb}
 use Rattle.basis.specs.Tests.{pick}
 use Rattle.basis.specs.Told.{Told}
 use Rattle.basis.specs.Search.{nothing}
-use Rattle.table.specs.Mark.{mark, is-set, marks-given}
+use Rattle.table.specs.Mark.{mark, marks-given}
+use Rattle.table.specs.declared.Mark.{Mark}
 use Rattle.table.specs.declared.Table.{Table}
 use Rattle.reader.specs.Reader.{reading}
 use Rattle.admission.specs.Bounded.{bounding, No-bound}
@@ -26,9 +27,12 @@ unfoldable pub of-thread : (Table → ℕ → ℕ) → List ℕ → ℕ → ℕ
 of-thread f s i =
     pick (eqb (verdict s) 0) (pick (ltb i (reading s .table .count)) (f (reading s .table) i) (refusal 15)) (refusal (verdict s))
 
--- The thread that the mark of thread i protects, 255 for none.
+-- A mark as a number: the thread that it protects, 255 for none.
+abbrev pub mark-told : Mark → ℕ
+mark-told m = pick (m .set) (m .thread) 255
+
 unfoldable pub mark-number : Table → ℕ → ℕ
-mark-number t i = pick (is-set (marks-given t) i) (getD (marks-given t) i (mark nothing) .thread) 255
+mark-number t i = mark-told (getD (marks-given t) i (mark nothing))
 
 -- The one value of an answer, 0 for none, or the refusal.
 abbrev pub value-or-0 : List ℕ → ℕ

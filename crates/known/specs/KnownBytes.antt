@@ -169,6 +169,11 @@ known =
           ∷ task 0 10 10 0 1 10 0 ∷ task 0 30 10 0 1 10 0 ∷ task 0 5 10 0 1 10 0 ∷ []));
       by-hand = 0 ∷ 100 ∷ 3 ∷ 3 ∷ replicate 29 100;
     }
+    -- from the table's start, and whatever the domains: thread 0 of domain 1 stands before the marked thread 1, thread 2 of domain 0 behind it
+    ∷ record {
+      computed = marks-told (table-of (7 ∷ 6 ∷ 4 ∷ []) (task 1 10 10 0 1 10 0 ∷ task 2 30 10 0 1 10 0 ∷ task 0 20 10 0 1 10 0 ∷ []));
+      by-hand = 0 ∷ 100 ∷ 0 ∷ replicate 30 100;
+    }
     -- marks of a table that is not legal: 11 and no marks
     ∷ record { computed = marks-told row-too-many; by-hand = 11 ∷ replicate 32 100 }
     -- E written into 24 bytes from place 3 on: the place after it is 22, and the bytes around it stay

@@ -41,6 +41,16 @@ known =
       computed = call example (at 1 (left 3 2 true 0 ∷ left 3 3 false 0 ∷ [])) (1 ∷ 1 ∷ []);
       by-hand = gives (idle-for 0) (at 2 (left 2 2 true 0 ∷ left 3 3 false 0 ∷ []));
     }
+    -- and whatever else it sends, the mark stays
+    ∷ record {
+      computed = call example (at 1 (left 3 2 true 0 ∷ left 3 3 false 0 ∷ [])) (0 ∷ 1 ∷ []);
+      by-hand = gives (idle-for 0) (at 2 (left 2 2 true 0 ∷ left 3 3 false 0 ∷ []));
+    }
+    -- a finish is heard where no execution is left, too
+    ∷ record {
+      computed = call example (at 2 (left 2 0 false 2 ∷ left 3 3 false 0 ∷ [])) (2 ∷ 1 ∷ []);
+      by-hand = gives (idle-for 0) (at 3 (left 1 0 true 2 ∷ left 3 3 false 0 ∷ []));
+    }
     -- bytes 3 and 255 set no mark
     ∷ record { computed = call example fresh (3 ∷ 1 ∷ []); by-hand = gives (idle-for 0) (at 1 (left 3 2 false 0 ∷ left 3 3 false 0 ∷ [])) }
     ∷ record { computed = call example fresh (255 ∷ 1 ∷ []); by-hand = gives (idle-for 0) (at 1 (left 3 2 false 0 ∷ left 3 3 false 0 ∷ [])) }

@@ -1,16 +1,16 @@
 -- Laws of the release: what it keeps, what it sets, and that it raises a rest at phase 0 only.
 use Prim.Native.Nat.{ℕ, zero, suc, _-_, _%_, _≤_, _<_, zero-le}
 use mathlib.Core.Path.{_≡_, refl, _∙_, ap}
-use mathlib.Core.Bool.{false}
-use mathlib.Core.Logic.{⊎-elim, _≢_}
+use mathlib.Core.Bool.{true, false}
+use mathlib.Core.Logic.{⊎-elim, _≢_, _↔_}
 use native.Mathlib.Omega.{arith}
 use native.Mathlib.Nat.{le-refl, eq-or-lt-of-le}
-use borrow.Author.Tests.{lt-ltb, le-ltb, eq-eqb, ne-eqb, ltb-false, lt-leb, le-leb}
+use borrow.Author.Tests.{lt-ltb, le-ltb, eq-eqb, ne-eqb, eqb-true, ltb-false, lt-leb, le-leb, leb-true}
 use lib.ListN.{length, length-set}
 use lib.Seq.{getD-set-same, getD-set-other}
 use lib.Dec.{eqb, ltb}
 use Rattle.basis.specs.Tests.{pick}
-use Rattle.basis.proofs.TestLaws.{both-ways, either, and-of, refuted}
+use Rattle.basis.proofs.TestLaws.{both-ways, either, and-both, and-of, refuted}
 use Rattle.table.specs.Threads.{thread}
 use Rattle.table.specs.declared.Table.{Table}
 use Rattle.table.specs.declared.Thread.{Thread}
@@ -88,6 +88,14 @@ pub past-deadline : (th : Thread) (c : ℕ) (p : Progress) → th .offset ≤ c 
     → th .deadline ≤ (c - th .offset) % th .period → released th c p ≡ with-execution 0 (with-rest 0 p)
 unfolding released at-phase pick
 past-deadline th c p late some over = rw (le-ltb _ _ late, ne-eqb _ _ some, le-leb _ _ over)
+
+-- A clock is a release of thread i exactly if it is at least O and its phase is 0.
+pub releases-exactly : (t : Table) (i c : ℕ) → (releases t i c ≡ true) ↔ ((thread t i .offset ≤ c) × ((c - thread t i .offset) % thread t i .period ≡ 0))
+unfolding releases
+releases-exactly t i c = (
+  λ e. let b = and-both _ _ e in (leb-true _ _ (b .0), eqb-true _ _ (b .1)),
+  λ h. and-of (le-leb _ _ (h .0)) (eq-eqb _ _ (h .1)),
+)
 
 -- A release at phase 0 refills the budget.
 pub rest-after-release : (t : Table) (s : State) (i : ℕ) → t .count ≤ 32 → Fits t s → i < t .count → thread t i .offset ≤ s .clock

@@ -46,14 +46,14 @@ module _ (t : Table) (i j : ℕ) where
 pub protects-given : (t : Table) (i j : ℕ) → protects t i ≡ found j → Protects t i j
 unfolding protects
 protects-given t i j e =
-    let w = first-found (λ k. pick (hidden-below t i k) (found k) nothing) (t .count) j e in
-    let p = passing (hidden-below t i (w .number)) (w .number) j (w .answers) in
+    let w = first-found _ (t .count) j e in
+    let p = passing _ _ j (w .answers) in
     record {
       in-table = rw (p .1) at (w .below);
       barred = hidden-says t i j (rw (p .1) at (p .0));
       before = λ k l u.
           let q : k < w .number = rw (p .1) l in
-          let n = silent _ k (first-nothing (λ j. pick (hidden-below t i j) (found j) nothing) (w .number) k (w .earlier) q) in
+          let n = silent _ _ (first-nothing _ (w .number) k (w .earlier) q) in
           refuted (hidden-of t i k u) n;
     }
 
@@ -109,6 +109,13 @@ marked-some t i =
     let f : Passing (hidden-below t i) (t .count) = some-found _ (t .count) h in
     refuted (mark-complete t i (record { thread-below = f .number; in-table = f .below; barred = hidden-says t i _ (f .passes) })) e)))
 
+-- A mark that is none is (false, 0), and one that protects thread j is (true, j).
+pub mark-none : (mark nothing .set ≡ false) × (mark nothing .thread ≡ 0)
+mark-none = (refl, refl)
+
+pub mark-some : (j : ℕ) → (mark (found j) .set ≡ true) × (mark (found j) .thread ≡ j)
+mark-some j = (refl, refl)
+
 -- The mark of each thread stands at its place.
 pub marks-at : (t : Table) (i : ℕ) → i < t .count → getD (marks-of t) i (mark nothing) ≡ mark (protects t i)
 unfolding marks-of
@@ -138,6 +145,17 @@ pub marks-name : (t : Table) (i j : ℕ) → legal t ≡ true → i < t .count �
 marks-name t i j e h = (
   λ m. protects-given t i j (mark-found _ j (sym (marks-given-at t i e h) ∙ m)),
   λ p. marks-given-at t i e h ∙ ap mark (protects-only t i j p),
+)
+
+mark-nothing : (s : Sought ℕ) → mark s ≡ mark nothing → s ≡ nothing
+mark-nothing nothing e = refl
+mark-nothing (found k) e = absurd (false≢true (sym (ap (λ (m : Mark). m .set) e)))
+
+-- It is none exactly when the thread does not leak.
+pub marks-none : (t : Table) (i : ℕ) → legal t ≡ true → i < t .count → (getD (marks-given t) i (mark nothing) ≡ mark nothing) ↔ (Leaks t i → ⊥)
+marks-none t i e h = (
+  λ m. protects-none t i .0 (mark-nothing _ (sym (marks-given-at t i e h) ∙ m)),
+  λ n. marks-given-at t i e h ∙ ap mark (protects-none t i .1 n),
 )
 
 -- A place past the last thread is unmarked, and so is every place of a table that is not legal.

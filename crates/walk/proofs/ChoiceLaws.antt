@@ -10,8 +10,8 @@ use borrow.Author.Tests.{ne-eqb, eqb-true, eqb-false, lt-ltb}
 use lib.ListN.{length, getD, length-set}
 use lib.Seq.{getD-set-same, getD-set-other}
 use lib.Dec.{eqb}
-use Rattle.basis.specs.Tests.{pick, and}
-use Rattle.basis.proofs.TestLaws.{both-ways, either, by-test, refuted, fails, and-both}
+use Rattle.basis.specs.Tests.{pick, and, or}
+use Rattle.basis.proofs.TestLaws.{both-ways, either, by-test, refuted, fails, and-both, or-true, or-false}
 use Rattle.table.specs.Threads.{thread}
 use Rattle.table.specs.Legal.{Legal}
 use Rattle.table.specs.Mark.{marked, marks-of, is-set}
@@ -185,6 +185,24 @@ module _ (m : List Mark) (b i : ℕ) (s : State) (l : i < length (s .threads)) w
       let q : State = put (heard b i s) i (paid (progress (heard b i s) i)) in
       ap (λ (x : Progress). x .rest) (put-same q i _ (rw (length-set (heard b i s .threads) i (paid (progress (heard b i s) i)), heard-long) l)) ∙ paid-rest
 
+  -- Its finish mark, heard, paid and counted.
+  heard-mark : progress (heard b i s) i .finished ≡ or (progress s i .finished) (eqb b 2)
+  unfolding heard finish
+  heard-mark =
+      either (λ (x : State). progress x i .finished ≡ or (progress s i .finished) (eqb b 2)) (eqb b 2)
+      (λ e. ap (λ (q : Progress). q .finished) (put-same s i (done (progress s i)) l) ∙ sym (rw e (or-true (progress s i .finished))))
+      (λ e. sym (rw e (or-false (progress s i .finished))))
+
+  paid-mark : progress (pay (heard b i s) i) i .finished ≡ progress (heard b i s) i .finished
+  unfolding pay
+  paid-mark = ap (λ (q : Progress). q .finished) (put-same (heard b i s) i _ (rw heard-long l))
+
+  counted-mark : progress (count (pay (heard b i s) i) i) i .finished ≡ progress (heard b i s) i .finished
+  unfolding count pay
+  counted-mark =
+      let q : State = put (heard b i s) i (paid (progress (heard b i s) i)) in
+      ap (λ (x : Progress). x .finished) (put-same q i _ (rw (length-set (heard b i s .threads) i (paid (progress (heard b i s) i)), heard-long) l)) ∙ paid-mark
+
 module _ (t : Table) (m : List Mark) (bs : List ℕ) where
   -- Above the thread that a walk names, nobody with a rest runs or is marked.
   walk-first : (i k p : ℕ) (is : List ℕ) (s : State) → Falling-from t p is → Names k (walk m bs is s .answer)
@@ -276,19 +294,21 @@ module _ (t : Table) (m : List Mark) (bs : List ℕ) where
       rw (reached m b i s h)
       (reached-pays m b i (heard b i s) P (λ _. omega (arith, counted-rest m b i s l)) (omega (arith, paid-rest m b i s l)) (omega (arith, paid-rest m b i s l)))
 
-  -- Every thread with a rest down to the one that a walk names, or all if it names nobody, pays one.
-  walk-takes : (i p : ℕ) (is : List ℕ) (s : State) → Falling-from t p is → i < length (s .threads) → Stands i is → 0 < progress s i .rest
+  -- What a visit does to a thread with a rest, a walk does to it, down to the one that it names or to all if it names nobody.
+  walk-leaves : (Q : ℕ → Progress → Progress → Type 0)
+      → ((i : ℕ) (s : State) → i < length (s .threads) → 0 < progress s i .rest → Q i (progress (visit m (getD bs i 0) i s .state) i) (progress s i))
+      → (i p : ℕ) (is : List ℕ) (s : State) → Falling-from t p is → i < length (s .threads) → Stands i is → 0 < progress s i .rest
       → ((k : ℕ) → Names k (walk m bs is s .answer) → thread t k .priority ≤ thread t i .priority)
-      → progress (walk m bs is s .state) i .rest + 1 ≡ progress s i .rest
-  walk-takes i p [] s f l h r n = absurd h
-  walk-takes i p (j ∷ js) s f l h r n =
+      → Q i (progress (walk m bs is s .state) i) (progress s i)
+  walk-leaves Q visited i p [] s f l h r n = absurd h
+  walk-leaves Q visited i p (j ∷ js) s f l h r n =
       let long : length (visit m (getD bs j 0) j s .state .threads) ≡ length (s .threads)
       = visit-keeps (λ x. length (x .threads)) (λ x k q. length-set (x .threads) k q) m (getD bs j 0) j s in
       by-test (chosen (visit m (getD bs j 0) j s .answer))
       (λ c.
       let u : thread t j .priority ≤ thread t i .priority = n j (rw (walk-stop m bs j js s c) (chosen-named (getD bs j 0) j s c)) in
       rw (walk-stop m bs j js s c)
-      (⊎-elim (λ (q : i ≡ j). rw q (visit-takes (getD bs j 0) j s (rw q at l) (rw q at r)))
+      (⊎-elim (λ (q : i ≡ j). rw q (visited j s (rw q at l) (rw q at r)))
       (λ (q : Stands i js). absurd (omega (arith, stands-lower t m bs i _ js (f .1) q, u)))
       h))
       (λ c.
@@ -297,11 +317,11 @@ module _ (t : Table) (m : List Mark) (bs : List ℕ) where
       (λ (q : i ≡ j).
       let a : progress (walk m bs js (visit m (getD bs j 0) j s .state) .state) j ≡ progress (visit m (getD bs j 0) j s .state) j
       = walk-apart j _ js _ (f .1) (omega arith) in
-      let v = visit-takes (getD bs j 0) j s (rw q at l) (rw q at r) in
+      let v = visited j s (rw q at l) (rw q at r) in
       rw (q, a) v)
       (λ (q : Stands i js).
       let o : progress (visit m (getD bs j 0) j s .state) i ≡ progress s i = visit-others m _ j s i (apart t i j (stands-lower t m bs i _ js (f .1) q)) in
-      let w = walk-takes i _ js _ (f .1) (rw long l) q (rw o r) (λ k x. n k (rw (walk-on m bs j js s c) x)) in
+      let w = walk-leaves Q visited i _ js _ (f .1) (rw long l) q (rw o r) (λ k x. n k (rw (walk-on m bs j js s c) x)) in
       rw o at w)
       h))
 
@@ -317,5 +337,26 @@ unfolding pays step advance ticked tick
 reached-pay-one t g bs s f i l h n =
     let long : length (release t (t .count) s .threads) ≡ 32 = release-length t (t .count) s ∙ f .long in
     let few : t .count ≤ 32 = g .count-high in
-    let w = walk-takes t (marks-of t) bs i 256 (order t) (release t (t .count) s) (order-falls-from t) (rw long (omega arith)) (order-whole t g i l) h n in
+    let w = walk-leaves t (marks-of t) bs (λ k r p. r .rest + 1 ≡ p .rest) (λ k z u v. visit-takes t (marks-of t) bs (getD bs k 0) k z u v) i 256 (order t)
+    (release t (t .count) s) (order-falls-from t) (rw long (omega arith)) (order-whole t g i l) h n in
     omega (arith, w)
+
+-- What a finish does to a reached thread: 2 sets the mark, and nothing clears it.
+visit-marks : (m : List Mark) (b i : ℕ) (s : State) → i < length (s .threads) → 0 < progress s i .rest
+    → progress (visit m b i s .state) i .finished ≡ or (progress s i .finished) (eqb b 2)
+visit-marks m b i s l h =
+    let P : Walked → Type 0 = λ w. progress (w .state) i .finished ≡ or (progress s i .finished) (eqb b 2) in
+    let k : progress (heard b i s) i .finished ≡ or (progress s i .finished) (eqb b 2) = heard-mark m b i s l in
+    let p : progress (pay (heard b i s) i) i .finished ≡ or (progress s i .finished) (eqb b 2) = paid-mark m b i s l ∙ k in
+    rw (reached m b i s h) (reached-pays m b i (heard b i s) P (λ _. counted-mark m b i s l ∙ k) p p)
+
+-- Of every thread with a rest, down to the chosen one or all where nobody is chosen, the finish mark is set then if it was or the byte is 2.
+pub reached-marks : (t : Table) → Legal t → (bs : List ℕ) (s : State) → Fits t s → (i : ℕ) → i < t .count → 0 < progress (release t (t .count) s) i .rest
+    → ((k : ℕ) → Names k (step t bs s .answer) → thread t k .priority ≤ thread t i .priority)
+    → progress (step t bs s .state) i .finished ≡ or (progress (release t (t .count) s) i .finished) (eqb (getD bs i 0) 2)
+unfolding step advance ticked tick
+reached-marks t g bs s f i l h n =
+    let long : length (release t (t .count) s .threads) ≡ 32 = release-length t (t .count) s ∙ f .long in
+    let few : t .count ≤ 32 = g .count-high in
+    walk-leaves t (marks-of t) bs (λ k r p. r .finished ≡ or (p .finished) (eqb (getD bs k 0) 2)) (λ k z u v. visit-marks (marks-of t) (getD bs k 0) k z u v) i 256
+    (order t) (release t (t .count) s) (order-falls-from t) (rw long (omega arith)) (order-whole t g i l) h n
