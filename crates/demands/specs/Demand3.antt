@@ -21,7 +21,7 @@ use Rattle.sight.specs.Shown.{visible, showing, seen-threads, showing-state}
 use Rattle.isolation.specs.Isolated.{telling, Isolated}
 
 pub record Demand-3 : Type 0 where
-  -- At every step d is shown the same thread or the same gap, and each thread that it may see has the same rest, finish mark and count.
+  -- At every step d is shown the same thread or the same gap, and each thread that it may see has the same rests, finish mark and count.
   pub isolated : (t : Table) → Legal t → Isolated t
   -- At no step is it refused what it is shown of the state, so what it is shown is never blank for that.
   pub shown-throughout : (t : Table) → Legal t → (d : ℕ) → d < t .domains → (a : List (List ℕ))

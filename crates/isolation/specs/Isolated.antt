@@ -1,5 +1,5 @@
 -- Demand 3: change at will the bytes of all threads whose domain may not flow to d, and at every step of a run from a fresh
--- start d is shown the same thread or the same gap, and of each thread that it may see the same rest, finish mark and count.
+-- start d is shown the same thread or the same gap, and of each thread that it may see the same rests, finish mark and count.
 use Prim.Native.Nat.{ℕ, _<_}
 use mathlib.Core.Path.{_≡_}
 use mathlib.Core.List.{List, [], _∷_, map}

@@ -41,7 +41,7 @@ told Gap = answered []
 told NotLegal = refused 11
 told NoDomain = refused 15
 
--- Thread i's rest, mark and count if d may see it, and zeros otherwise.
+-- Thread i's rests, mark and count if d may see it, and zeros otherwise.
 unfoldable pub seen-progress : Table → ℕ → State → ℕ → Progress
 seen-progress t d s i = pick (visible t d i) (progress s i) no-progress
 
