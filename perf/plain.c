@@ -5,8 +5,8 @@
 #include <stdlib.h>
 #include <string.h>
 
-typedef struct { uint8_t domain, priority; uint16_t period, offset, budget, deadline, blocking; } thread;
-typedef struct { uint8_t domains, count; uint16_t rows[16]; thread threads[32]; } table;
+typedef struct { uint8_t domain, priority; uint16_t period, offset, budget, deadline, blocking; uint8_t kind; } thread;
+typedef struct { uint8_t version, domains, count; uint16_t rows[16]; thread threads[32]; } table;
 typedef struct { uint16_t rest, execution; uint8_t finished; uint32_t ran; } progress;
 typedef struct { uint32_t clock; progress threads[32]; } state;
 typedef struct { uint8_t order[32]; uint8_t marks[32]; } prepared;
@@ -48,7 +48,7 @@ static int transitive(const table *t) {
 
 static void read_table(table *t) {
     memset(t, 0, sizeof *t);
-    ranged(1, 1, 4);
+    t->version = ranged(1, 2, 4);
     t->domains = ranged(1, 16, 5);
     t->count = ranged(1, 32, 5);
     for (unsigned i = 0; i < t->domains; i++) {
@@ -66,13 +66,14 @@ static void read_table(table *t) {
         th->budget = ranged(1, th->period, 8);
         th->deadline = ranged(th->budget, th->period, 8);
         th->blocking = ranged(0, th->budget, 8);
+        if (t->version == 2) th->kind = ranged(0, th->offset == 0, 8);
     }
     if (at < length) refuse(10, at);
 }
 
 #ifdef EACH
 static int legal(const table *t) {
-    if (t->domains < 1 || t->domains > 16 || t->count < 1 || t->count > 32) return 0;
+    if (t->version < 1 || t->version > 2 || t->domains < 1 || t->domains > 16 || t->count < 1 || t->count > 32) return 0;
     for (unsigned i = 0; i < 16; i++) {
         if (i < t->domains ? t->rows[i] >> t->domains || !flows(t, i, i) : t->rows[i]) return 0;
     }
@@ -87,7 +88,7 @@ static int legal(const table *t) {
         }
         if (th->domain >= t->domains || th->period < 1 || th->period > 60000 || th->offset >= th->period || th->budget < 1
             || th->budget > th->period || th->deadline < th->budget || th->deadline > th->period || th->blocking > th->budget
-            || taken[th->priority]) return 0;
+            || th->kind > (t->version == 2 && th->offset == 0) || taken[th->priority]) return 0;
         taken[th->priority] = 1;
     }
     return 1;
@@ -125,7 +126,7 @@ static unsigned step(const table *t, const prepared *q, state *s, const uint8_t 
     for (unsigned i = 0; i < t->count; i++) {
         const thread *th = &t->threads[i];
         progress *p = &s->threads[i];
-        if (s->clock < th->offset) continue;
+        if (th->kind || s->clock < th->offset) continue; /* no step brings an event */
         unsigned phase = (s->clock - th->offset) % th->period;
         if (phase == 0) { p->rest = th->budget; p->execution = th->budget - th->blocking; p->finished = 0; }
         else if (phase >= th->deadline) p->rest = p->execution = 0;

@@ -35,9 +35,9 @@ static size_t put(uint8_t *to, unsigned v) {
     return n;
 }
 
-/* The longest table: every number that can take three bytes does, and every priority that can takes two. */
-static size_t longest(uint8_t *to) {
-    size_t n = put(to, 1);
+/* The longest table of a version: every number that can take three bytes does, and every priority that can takes two. */
+static size_t longest(uint8_t *to, unsigned version) {
+    size_t n = put(to, version);
     n += put(to + n, 16);
     n += put(to + n, 32);
     for (unsigned i = 0; i < 16; i++) n += put(to + n, 65535);
@@ -49,6 +49,7 @@ static size_t longest(uint8_t *to) {
         n += put(to + n, 60000);
         n += put(to + n, 60000);
         n += put(to + n, 60000);
+        if (version == 2) n += put(to + n, 0);
     }
     return n;
 }
@@ -82,14 +83,14 @@ int main(void) {
 
     refused("no bytes", NULL, 0, 1);
     for (n = 0; n < sizeof e; n++) refused("E cut short", e, n, 1);
-    static const uint8_t two[] = {0x80, 0}, three[] = {0x80, 0x80, 4}, longer[] = {0x80, 0x80, 0x80, 1}, four[] = {2};
+    static const uint8_t two[] = {0x80, 0}, three[] = {0x80, 0x80, 4}, longer[] = {0x80, 0x80, 0x80, 1}, four[] = {3};
     static const uint8_t zero_domains[] = {1, 0}, seventeen[] = {1, 17}, zero_threads[] = {1, 1, 0}, thirty_three[] = {1, 1, 33};
     static const uint8_t six_more[] = {1, 2, 2, 7}, six_own[] = {1, 2, 2, 2}, seven[] = {1, 3, 1, 3, 6, 4};
     static const uint8_t eight[] = {1, 1, 1, 1, 0, 5, 0}, nine[] = {1, 1, 2, 1, 0, 5, 1, 0, 1, 1, 0, 0, 5};
     REFUSED("not the shortest form", two, 2);
     REFUSED("above 65,535", three, 3);
     REFUSED("a fourth byte", longer, 3);
-    REFUSED("version 2", four, 4);
+    REFUSED("version 3", four, 4);
     REFUSED("no domains", zero_domains, 5);
     REFUSED("17 domains", seventeen, 5);
     REFUSED("no threads", zero_threads, 5);
@@ -103,8 +104,23 @@ int main(void) {
     b[sizeof e] = 0;
     refused("an extra byte", b, sizeof e + 1, 10);
 
-    n = longest(b);
-    expect("the longest table's bytes", (uint32_t)n, 627);
+    static const uint8_t e2[] = {2, 2, 2, 3, 2, 1, 30, 10, 0, 4, 10, 2, 0, 0, 20, 10, 0, 3, 10, 0, 1};
+    expect("E in version 2, thread 1 of event kind", mikuzerao_verdict(e2, sizeof e2), 0);
+    expect("E in version 2, mark of 0", mikuzerao_mark(e2, sizeof e2, 0), 1);
+    expect("E in version 2, bound of 1", mikuzerao_bound(e2, sizeof e2, 1), 7);
+    for (n = 0; n < sizeof e2; n++) refused("E in version 2 cut short", e2, n, 1);
+    memcpy(b, e2, sizeof e2);
+    b[20] = 2;
+    refused("a kind of 2", b, sizeof e2, 8);
+    b[20] = 1;
+    b[16] = 1;
+    refused("an event thread with an offset", b, sizeof e2, 8);
+
+    n = longest(b, 1);
+    expect("the longest table's bytes in version 1", (uint32_t)n, 627);
+    expect("the longest table in version 1", mikuzerao_verdict(b, n), 0);
+    n = longest(b, 2);
+    expect("the longest table's bytes", (uint32_t)n, 659);
     expect("the longest table", mikuzerao_verdict(b, n), 0);
     expect("the longest table, mark of 31", mikuzerao_mark(b, n, 31), MIKUZERAO_NONE);
     expect("the longest table, mark of 32", mikuzerao_mark(b, n, 32), MIKUZERAO_REFUSED + 15);

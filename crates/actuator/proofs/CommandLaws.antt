@@ -33,7 +33,7 @@ module _ (t : Table) (b : Brought) (s : State) (a : Actuator) where
   unfolding moved-to
   command-of n h =
       let e = drive-steps t b s a (ap (λ (x : Told). x .number) h) in
-      let v : taken t (b .bytes) s .told ≡ answered (values n) = sym (ap (λ (x : Drove). x .told) e) ∙ h in
+      let v : taken t (b .input) s .told ≡ answered (values n) = sym (ap (λ (x : Drove). x .told) e) ∙ h in
       ap (λ (x : Drove). x .actuator .command) e ∙ rw (v, answer-back n)
 
   pub taken-if-ran : driven t b s a .told ≡ answered (0 ∷ a .thread ∷ []) → driven t b s a .actuator .command ≡ drawn (b .command)
@@ -46,8 +46,8 @@ module _ (t : Table) (b : Brought) (s : State) (a : Actuator) where
   kept-unless-ran h =
       by-test (eqb (driven t b s a .told .number) 0)
       (λ q. let m = eqb-true (driven t b s a .told .number) 0 q in
-      let k : taken t (b .bytes) s .told .number ≡ 0 = sym (ap (λ (x : Drove). x .told .number) (drive-steps t b s a m)) ∙ m in
-      stepped (number-exactly t (b .bytes) s 0 .0 k) m)
+      let k : taken t (b .input) s .told .number ≡ 0 = sym (ap (λ (x : Drove). x .told .number) (drive-steps t b s a m)) ∙ m in
+      stepped (number-exactly t (b .input) s 0 .0 k) m)
       (λ q. ap (λ (x : Actuator). x .command) (drive-refused-keeps t b s a (above (eqb-false _ 0 q)) .1))
     where
       other : (n : Answer) → driven t b s a .told ≡ answered (values n) → commanded a n (b .command) ≡ a .command
@@ -57,9 +57,9 @@ module _ (t : Table) (b : Brought) (s : State) (a : Actuator) where
       other (IdleFor i) e = refl
       other Idle e = refl
 
-      stepped : Numbered t (b .bytes) s 0 → driven t b s a .told .number ≡ 0 → driven t b s a .actuator .command ≡ a .command
-      stepped (steps x y z w) m =
-          let n : Answer = step t (b .bytes) s .answer in
+      stepped : Numbered t (b .input) s 0 → driven t b s a .told .number ≡ 0 → driven t b s a .actuator .command ≡ a .command
+      stepped (steps x y z u w) m =
+          let n : Answer = step t (b .input) s .answer in
           let e : driven t b s a .told ≡ answered (values n) =
-          ap (λ (r : Drove). r .told) (drive-steps t b s a m) ∙ ap (λ (r : Taken). r .told) (taken-steps t (b .bytes) s x y z w) in
+          ap (λ (r : Drove). r .told) (drive-steps t b s a m) ∙ ap (λ (r : Taken). r .told) (taken-steps t (b .input) s x y z u w) in
           command-of n e ∙ other n e

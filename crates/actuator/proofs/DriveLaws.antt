@@ -1,7 +1,6 @@
 -- What a drive gives, by what its step gave: one law for each way through the refusals; and a step tells 0 with an answer only.
 use Prim.Native.Nat.{ℕ, _≤_, _<_}
 use mathlib.Core.Path.{_≡_, refl, sym, _∙_, ap}
-use mathlib.Core.List.{List}
 use mathlib.Core.Bool.{Bool, true, false}
 use native.Mathlib.Omega.{arith}
 use borrow.Author.Tests.{lt-ltb, le-ltb, ne-eqb}
@@ -12,7 +11,7 @@ use Rattle.basis.specs.Tests.{pick}
 use Rattle.basis.specs.Told.{Told, answered, refused}
 use Rattle.basis.proofs.TestLaws.{both-ways}
 use Rattle.table.specs.declared.Table.{Table}
-use Rattle.walk.specs.Step.{step}
+use Rattle.walk.specs.Step.{Input, step}
 use Rattle.scheduler.specs.Taken.{Taken, values, took, taken}
 use Rattle.scheduler.specs.Numbered.{Numbered, steps}
 use Rattle.scheduler.specs.Taken.{answer-of}
@@ -37,19 +36,19 @@ has-values (Ran i) e = omega arith
 has-values (IdleFor i) e = omega arith
 has-values Idle e = omega arith
 
-pub never-0 : (t : Table) (bs : List ℕ) (s : State) (why : ℕ) → taken t bs s .told ≡ refused why → why ≡ 0 → ⊥
-never-0 t bs s why e z = go (number-exactly t bs s 0 .0 (ap (λ (n : Told). n .number) e ∙ z))
+pub never-0 : (t : Table) (x : Input) (s : State) (why : ℕ) → taken t x s .told ≡ refused why → why ≡ 0 → ⊥
+never-0 t x s why e z = go (number-exactly t x s 0 .0 (ap (λ (n : Told). n .number) e ∙ z))
   where
-    go : Numbered t bs s 0 → ⊥
-    go (steps a b c d) =
-        has-values (step t bs s .answer) (ap (λ (x : Taken). length (x .told .values)) (sym (taken-steps t bs s a b c d)) ∙ ap (λ (n : Told). length (n .values)) e)
+    go : Numbered t x s 0 → ⊥
+    go (steps a b c m d) =
+        has-values (step t x s .answer) (ap (λ (r : Taken). length (r .told .values)) (sym (taken-steps t x s a b c m d)) ∙ ap (λ (n : Told). length (n .values)) e)
 
 module _ (t : Table) (b : Brought) (s : State) (a : Actuator) where
-  pub drove-refused : (why : ℕ) → taken t (b .bytes) s .told ≡ refused why → driven t b s a ≡ refused-drive (refused why) s a
+  pub drove-refused : (why : ℕ) → taken t (b .input) s .told ≡ refused why → driven t b s a ≡ refused-drive (refused why) s a
   unfolding driven follows pick
-  drove-refused why e = rw (e, ne-eqb why 0 (never-0 t (b .bytes) s why e))
+  drove-refused why e = rw (e, ne-eqb why 0 (never-0 t (b .input) s why e))
 
-  module _ (n : Answer) (next : State) (e : taken t (b .bytes) s ≡ record { told = answered (values n); state = next }) where
+  module _ (n : Answer) (next : State) (e : taken t (b .input) s ≡ record { told = answered (values n); state = next }) where
     pub drove-15 : t .count ≤ a .thread → driven t b s a ≡ refused-drive (refused 15) s a
     unfolding driven follows pick
     drove-15 h = rw (e, le-ltb (a .thread) (t .count) h)

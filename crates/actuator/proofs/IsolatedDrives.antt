@@ -19,6 +19,7 @@ use Rattle.table.specs.declared.Table.{Table}
 use Rattle.state.specs.State.{fresh}
 use Rattle.scheduler.specs.Taken.{Taken, taken}
 use Rattle.sight.specs.Shown.{visible, view, showing}
+use Rattle.walk.specs.Step.{Input}
 use Rattle.scheduler.specs.Calls.{calls}
 use Rattle.scheduler.specs.Taken.{answer-of}
 use Rattle.isolation.specs.Isolated.{telling, Shown-call, shown-of, Same-step, Same-steps, ended, next}
@@ -74,22 +75,22 @@ accepted t a = and (ltb (a .thread) (t .count)) (ranged a)
 
 module _ (t : Table) (b : Brought) (s : State) (a : Actuator) where
   -- Where it passes, the scheduler's part of a drive is the scheduler's call, the actuator moves with every step, and it passes again.
-  part-taken : accepted t a ≡ true → step-part (driven t b s a) ≡ taken t (b .bytes) s
+  part-taken : accepted t a ≡ true → step-part (driven t b s a) ≡ taken t (b .input) s
   unfolding accepted driven follows pick
   part-taken h =
       let p = and-both (ltb (a .thread) (t .count)) (ranged a) h in
-      let r : Taken = taken t (b .bytes) s in
-      by-test (eqb (taken t (b .bytes) s .told .number) 0) (λ e. rw (e, p .0, p .1))
-      (λ e. let k : r .state ≡ s = refused-keeps t (b .bytes) s (omega (arith, eqb-false (taken t (b .bytes) s .told .number) 0 e)) in
+      let r : Taken = taken t (b .input) s in
+      by-test (eqb (taken t (b .input) s .told .number) 0) (λ e. rw (e, p .0, p .1))
+      (λ e. let k : r .state ≡ s = refused-keeps t (b .input) s (omega (arith, eqb-false (taken t (b .input) s .told .number) 0 e)) in
       rw e (λ i. record { told = r .told; state = sym k i }))
 
   actuator-by : accepted t a ≡ true
       → driven t b s a .actuator
-      ≡ pick (eqb (taken t (b .bytes) s .told .number) 0) (moved-to a (commanded a (answer-of (taken t (b .bytes) s .told .values)) (b .command))) a
+      ≡ pick (eqb (taken t (b .input) s .told .number) 0) (moved-to a (commanded a (answer-of (taken t (b .input) s .told .values)) (b .command))) a
   unfolding accepted driven follows pick
   actuator-by h =
       let p = and-both (ltb (a .thread) (t .count)) (ranged a) h in
-      by-test (eqb (taken t (b .bytes) s .told .number) 0) (λ e. rw (e, p .0, p .1)) (λ e. rw e)
+      by-test (eqb (taken t (b .input) s .told .number) 0) (λ e. rw (e, p .0, p .1)) (λ e. rw e)
 
   thread-stays : driven t b s a .actuator .thread ≡ a .thread
   unfolding moved-to
@@ -109,13 +110,13 @@ module _ (t : Table) (b : Brought) (s : State) (a : Actuator) where
   still : accepted t a ≡ false
       → driven t b s a
       ≡ record {
-        told = pick (eqb (taken t (b .bytes) s .told .number) 0) (refused (pick (ltb (a .thread) (t .count)) 20 15)) (taken t (b .bytes) s .told);
+        told = pick (eqb (taken t (b .input) s .told .number) 0) (refused (pick (ltb (a .thread) (t .count)) 20 15)) (taken t (b .input) s .told);
         state = s;
         actuator = a;
       }
   unfolding accepted driven follows pick
   still h =
-      by-test (eqb (taken t (b .bytes) s .told .number) 0)
+      by-test (eqb (taken t (b .input) s .told .number) 0)
       (λ e. by-test (ltb (a .thread) (t .count))
       (λ f. let r : ranged a ≡ false = sym (ap (λ x. and x (ranged a)) f) ∙ h in rw (e, f, r))
       (λ f. rw (e, f)))
@@ -132,8 +133,8 @@ tails e = cc
 empty : {A B : Type 0} {x : A} {xs : List A} → [] ≡ x ∷ xs → B
 empty e = absurd (omega (arith, ap length e))
 
-abbrev sent : List Brought → List (List ℕ)
-sent bs = map (λ (b : Brought). b .bytes) bs
+abbrev sent : List Brought → List Input
+sent bs = map (λ (b : Brought). b .input) bs
 
 abbrev wanted : List Brought → List ℤ
 wanted bs = map (λ (b : Brought). b .command) bs
@@ -144,8 +145,8 @@ module _ (t : Table) (ok : legal t ≡ true) (d : ℕ) (dd : d < t .domains) whe
       → map (λ (r : Drove). shown-of t d (step-part r)) (drives t bs s a) ≡ map (shown-of t d) (calls t (sent bs) s)
   unfolding drives calls
   shown-drives bs s a h =
-      turns-same _ _ _ _ _ _ (λ (x : State × Actuator) (r : State). (x .0 ≡ r) × (accepted t (x .1) ≡ true)) (λ (b : Brought). b .bytes)
-      (λ b x r k. let p : step-part (driven t b (x .0) (x .1)) ≡ taken t (b .bytes) r = part-taken t b (x .0) (x .1) (k .1) ∙ ap (taken t (b .bytes)) (k .0) in
+      turns-same _ _ _ _ _ _ (λ (x : State × Actuator) (r : State). (x .0 ≡ r) × (accepted t (x .1) ≡ true)) (λ (b : Brought). b .input)
+      (λ b x r k. let p : step-part (driven t b (x .0) (x .1)) ≡ taken t (b .input) r = part-taken t b (x .0) (x .1) (k .1) ∙ ap (taken t (b .input)) (k .0) in
       (ap (shown-of t d) p, (ap (λ (w : Taken). w .state) p, accepted-stays t b (x .0) (x .1) (k .1))))
       bs (s, a) s (refl, h)
 
@@ -166,12 +167,12 @@ module _ (t : Table) (ok : legal t ≡ true) (d : ℕ) (dd : d < t .domains) whe
 
   -- Passed: the actuator goes the same way.
   same-move : (b c : Brought) (s r : State) (a : Actuator) → accepted t a ≡ true → visible t d (a .thread) ≡ true
-      → shown-of t d (taken t (b .bytes) s) ≡ shown-of t d (taken t (c .bytes) r) → b .command ≡ c .command
+      → shown-of t d (taken t (b .input) s) ≡ shown-of t d (taken t (c .input) r) → b .command ≡ c .command
       → driven t b s a .actuator ≡ driven t c r a .actuator
   unfolding shown-of commanded
   same-move b c s r a h v e k =
-      let x : Told = taken t (b .bytes) s .told in
-      let y : Told = taken t (c .bytes) r .told in
+      let x : Told = taken t (b .input) s .told in
+      let y : Told = taken t (c .input) r .told in
       let q : telling t d x ≡ telling t d y = ap (λ (z : Shown-call). z .told) e in
       actuator-by t b s a h
       ∙ both _≡_ (eqb (x .number) 0) (eqb (y .number) 0) (same-told x y q)
@@ -188,8 +189,8 @@ module _ (t : Table) (ok : legal t ≡ true) (d : ℕ) (dd : d < t .domains) whe
   same-actuators (b ∷ us) [] s r a h v e k = empty (sym k)
   same-actuators (b ∷ us) (c ∷ vs) s r a h v e k =
       let m : driven t b s a .actuator ≡ driven t c r a .actuator = same-move b c s r a h v (heads e) (heads k) in
-      let p : driven t b s a .state ≡ taken t (b .bytes) s .state = ap (λ (x : Taken). x .state) (part-taken t b s a h) in
-      let q : driven t c r a .state ≡ taken t (c .bytes) r .state = ap (λ (x : Taken). x .state) (part-taken t c r a h) in
+      let p : driven t b s a .state ≡ taken t (b .input) s .state = ap (λ (x : Taken). x .state) (part-taken t b s a h) in
+      let q : driven t c r a .state ≡ taken t (c .input) r .state = ap (λ (x : Taken). x .state) (part-taken t c r a h) in
       let f = ap (λ x. map (shown-of t d) (calls t (sent us) x)) p ∙ tails e ∙ sym (ap (λ x. map (shown-of t d) (calls t (sent vs) x)) q) in
       ap₂ _∷_ m
       (same-actuators us vs (driven t b s a .state) (driven t c r a .state) (driven t b s a .actuator) (accepted-stays t b s a h) (rw (thread-stays t b s a) v) f (tails k)
@@ -197,56 +198,56 @@ module _ (t : Table) (ok : legal t ≡ true) (d : ℕ) (dd : d < t .domains) whe
 
 -- Not passed: the drives are shown the same, since their steps are, and the actuator stays.
 module _ (t : Table) (ok : legal t ≡ true) (z : Sized t) (d : ℕ) (dd : d < t .domains) where
-  still-told : (a : Actuator) → accepted t a ≡ false → (b c : Brought) → Same-step t d (b .bytes) (c .bytes)
-      → driven t b fresh a .told ≡ driven t c fresh a .told
+  still-told : (a : Actuator) → accepted t a ≡ false → (b c : Brought) → Same-step t d (b .input) (c .input)
+      → driven t b (fresh t) a .told ≡ driven t c (fresh t) a .told
   unfolding shown-of calls in-turn
   still-told a h b c m =
-      let x : Told = taken t (b .bytes) fresh .told in
-      let y : Told = taken t (c .bytes) fresh .told in
-      let e = demand-3 t ok z d dd (b .bytes ∷ []) (c .bytes ∷ []) (next m ended) in
+      let x : Told = taken t (b .input) (fresh t) .told in
+      let y : Told = taken t (c .input) (fresh t) .told in
+      let e = demand-3 t ok z d dd (b .input ∷ []) (c .input ∷ []) (next m ended) in
       let q : telling t d x ≡ telling t d y = ap (λ (w : Shown-call). w .told) (heads e) in
-      ap (λ (w : Drove). w .told) (still t b fresh a h)
+      ap (λ (w : Drove). w .told) (still t b (fresh t) a h)
       ∙ both _≡_ (eqb (x .number) 0) (eqb (y .number) 0) (same-told t ok d dd x y q) (λ _. refl) (λ f. same-refused t ok d dd x y q f)
-      ∙ sym (ap (λ (w : Drove). w .told) (still t c fresh a h))
+      ∙ sym (ap (λ (w : Drove). w .told) (still t c (fresh t) a h))
 
   still-drives : (a : Actuator) → accepted t a ≡ false → (b : Brought) (bs : List Brought) (s : State)
       → drives t bs (driven t b s a .state) (driven t b s a .actuator) ≡ drives t bs s a
   still-drives a h b bs s = ap (λ (w : Drove). drives t bs (w .state) (w .actuator)) (still t b s a h)
 
   still-shown : (a : Actuator) → accepted t a ≡ false → (us vs : List Brought) → Same-steps t d (sent us) (sent vs)
-      → map (λ (r : Drove). shown-of t d (step-part r)) (drives t us fresh a) ≡ map (λ (r : Drove). shown-of t d (step-part r)) (drives t vs fresh a)
+      → map (λ (r : Drove). shown-of t d (step-part r)) (drives t us (fresh t) a) ≡ map (λ (r : Drove). shown-of t d (step-part r)) (drives t vs (fresh t) a)
   unfolding drives in-turn
   still-shown a h [] [] ended = refl
   still-shown a h (b ∷ us) (c ∷ vs) (next m more) =
       let n = still-told a h b c m in
-      let u : driven t b fresh a .state ≡ driven t c fresh a .state = ap (λ (w : Drove). w .state) (still t b fresh a h) ∙ sym (ap (λ (w : Drove). w .state) (still t c fresh a h)) in
-      let e : step-part (driven t b fresh a) ≡ step-part (driven t c fresh a) = λ i. record { told = n i; state = u i } in
+      let u : driven t b (fresh t) a .state ≡ driven t c (fresh t) a .state = ap (λ (w : Drove). w .state) (still t b (fresh t) a h) ∙ sym (ap (λ (w : Drove). w .state) (still t c (fresh t) a h)) in
+      let e : step-part (driven t b (fresh t) a) ≡ step-part (driven t c (fresh t) a) = λ i. record { told = n i; state = u i } in
       let show : List Drove → List Shown-call = map (λ (r : Drove). shown-of t d (step-part r)) in
       ap₂ _∷_ (ap (shown-of t d) e)
-      (ap show (still-drives a h b us fresh) ∙ still-shown a h us vs more ∙ sym (ap show (still-drives a h c vs fresh)))
+      (ap show (still-drives a h b us (fresh t)) ∙ still-shown a h us vs more ∙ sym (ap show (still-drives a h c vs (fresh t))))
 
   still-actuators : (a : Actuator) → accepted t a ≡ false → (us vs : List Brought) → wanted us ≡ wanted vs
-      → map (λ (r : Drove). r .actuator) (drives t us fresh a) ≡ map (λ (r : Drove). r .actuator) (drives t vs fresh a)
+      → map (λ (r : Drove). r .actuator) (drives t us (fresh t) a) ≡ map (λ (r : Drove). r .actuator) (drives t vs (fresh t) a)
   unfolding drives in-turn
   still-actuators a h [] [] k = refl
   still-actuators a h [] (c ∷ vs) k = empty k
   still-actuators a h (b ∷ us) [] k = empty (sym k)
   still-actuators a h (b ∷ us) (c ∷ vs) k =
-      ap₂ _∷_ (ap (λ (w : Drove). w .actuator) (still t b fresh a h) ∙ sym (ap (λ (w : Drove). w .actuator) (still t c fresh a h)))
-      (ap (map (λ (r : Drove). r .actuator)) (still-drives a h b us fresh) ∙ still-actuators a h us vs (tails k) ∙ sym (ap (map (λ (r : Drove). r .actuator)) (still-drives a h c vs fresh)))
+      ap₂ _∷_ (ap (λ (w : Drove). w .actuator) (still t b (fresh t) a h) ∙ sym (ap (λ (w : Drove). w .actuator) (still t c (fresh t) a h)))
+      (ap (map (λ (r : Drove). r .actuator)) (still-drives a h b us (fresh t)) ∙ still-actuators a h us vs (tails k) ∙ sym (ap (map (λ (r : Drove). r .actuator)) (still-drives a h c vs (fresh t))))
 
 pub isolated-drives : (t : Table) → legal t ≡ true → Sized t → Isolated-drives t
 isolated-drives t ok z d dd a us vs m =
     by-test (accepted t a)
-    (λ h. shown-drives t ok d dd us fresh a h ∙ demand-3 t ok z d dd (sent us) (sent vs) m ∙ sym (shown-drives t ok d dd vs fresh a h))
+    (λ h. shown-drives t ok d dd us (fresh t) a h ∙ demand-3 t ok z d dd (sent us) (sent vs) m ∙ sym (shown-drives t ok d dd vs (fresh t) a h))
     (λ h. still-shown t ok z d dd a h us vs m)
 
 -- Position and last command alike, at every step.
 pub isolated-actuators : (t : Table) → legal t ≡ true → Sized t → (d : ℕ) → d < t .domains → (a : Actuator) → visible t d (a .thread) ≡ true
-    → (us vs : List Brought) → Same-runs t d us vs → map (λ (r : Drove). r .actuator) (drives t us fresh a) ≡ map (λ (r : Drove). r .actuator) (drives t vs fresh a)
+    → (us vs : List Brought) → Same-runs t d us vs → map (λ (r : Drove). r .actuator) (drives t us (fresh t) a) ≡ map (λ (r : Drove). r .actuator) (drives t vs (fresh t) a)
 isolated-actuators t ok z d dd a v us vs m =
     by-test (accepted t a)
-    (λ h. same-actuators t ok d dd us vs fresh fresh a h v (demand-3 t ok z d dd (sent us) (sent vs) (m .steps)) (m .commands))
+    (λ h. same-actuators t ok d dd us vs (fresh t) (fresh t) a h v (demand-3 t ok z d dd (sent us) (sent vs) (m .steps)) (m .commands))
     (λ h. still-actuators t ok z d dd a h us vs (m .commands))
 
 pub same-positions : (t : Table) → legal t ≡ true → Sized t → Same-positions t

@@ -150,14 +150,14 @@ pub data Case (t : Table) (b : Brought) (s : State) (a : Actuator) : Type 0 wher
 pub case-of : (t : Table) (b : Brought) (s : State) (a : Actuator) → Case t b s a
 unfolding driven follows pick
 case-of t b s a =
-    by-test (eqb (taken t (b .bytes) s .told .number) 0)
+    by-test (eqb (taken t (b .input) s .told .number) 0)
     (λ e. by-test (ltb (a .thread) (t .count))
     (λ f. by-test (ranged a)
-    (λ r. let n = answer-of (taken t (b .bytes) s .told .values) in
+    (λ r. let n = answer-of (taken t (b .input) s .told .values) in
     goes (commanded a n (b .command)) r (commanded-in a r n (b .command)) (rw (e, f, r)))
     (λ r. stays (rw (e, f, r) (λ z. omega arith)) (rw (e, f, r))))
     (λ f. stays (rw (e, f) (λ z. omega arith)) (rw (e, f))))
-    (λ e. stays (rw e (eqb-false (taken t (b .bytes) s .told .number) 0 e)) (rw e))
+    (λ e. stays (rw e (eqb-false (taken t (b .input) s .told .number) 0 e)) (rw e))
 
 -- So no later call of a run is refused with 20 for it.
 pub ranged-stays : (t : Table) (b : Brought) (s : State) (a : Actuator) → ranged a ≡ true → ranged (driven t b s a .actuator) ≡ true
@@ -171,13 +171,13 @@ ranged-stays t b s a h = go (case-of t b s a)
 pub drive-steps : (t : Table) (b : Brought) (s : State) (a : Actuator) → driven t b s a .told .number ≡ 0
     → driven t b s a
     ≡ record {
-      told = taken t (b .bytes) s .told;
-      state = taken t (b .bytes) s .state;
-      actuator = moved-to a (commanded a (answer-of (taken t (b .bytes) s .told .values)) (b .command));
+      told = taken t (b .input) s .told;
+      state = taken t (b .input) s .state;
+      actuator = moved-to a (commanded a (answer-of (taken t (b .input) s .told .values)) (b .command));
     }
 unfolding driven follows
 drive-steps t b s a =
-    let x = taken t (b .bytes) s in
+    let x = taken t (b .input) s in
     let w : Drove = record { told = x .told; state = x .state; actuator = moved-to a (commanded a (answer-of (x .told .values)) (b .command)) } in
     let P : Drove → Type 0 = λ y. y .told .number ≡ 0 → y ≡ w in
     either P (eqb (x .told .number) 0)

@@ -71,16 +71,16 @@ module _ (t : Table) (b : Brought) (s : State) (a : Actuator) where
   only : {n : ℕ} → Drive-numbered t b s a n → driven t b s a .told .number ≡ n
   unfolding driven follows pick
   only (of-the-step {n} h z) =
-      let e : taken t (b .bytes) s .told .number ≡ n = number-exactly t (b .bytes) s n .1 h in
+      let e : taken t (b .input) s .told .number ≡ n = number-exactly t (b .input) s n .1 h in
       rw (e, ne-eqb n 0 z) e
   only (no-thread h k) =
-      let e : taken t (b .bytes) s .told .number ≡ 0 = number-exactly t (b .bytes) s 0 .1 h in
+      let e : taken t (b .input) s .told .number ≡ 0 = number-exactly t (b .input) s 0 .1 h in
       rw (e, le-ltb (a .thread) (t .count) k)
   only (out-of-range h k r) =
-      let e : taken t (b .bytes) s .told .number ≡ 0 = number-exactly t (b .bytes) s 0 .1 h in
+      let e : taken t (b .input) s .told .number ≡ 0 = number-exactly t (b .input) s 0 .1 h in
       rw (e, lt-ltb (a .thread) (t .count) k, not-ranged a r)
   only (moves h k r) =
-      let e : taken t (b .bytes) s .told .number ≡ 0 = number-exactly t (b .bytes) s 0 .1 h in
+      let e : taken t (b .input) s .told .number ≡ 0 = number-exactly t (b .input) s 0 .1 h in
       rw (e, lt-ltb (a .thread) (t .count) k, ranged-complete a r) e
 
   here : {n : ℕ} → Drive-numbered t b s a n → Drive-numbered t b s a (driven t b s a .told .number)
@@ -88,13 +88,13 @@ module _ (t : Table) (b : Brought) (s : State) (a : Actuator) where
 
   given : Drive-numbered t b s a (driven t b s a .told .number)
   given =
-      by-test (eqb (taken t (b .bytes) s .told .number) 0)
-      (λ e. let h : Numbered t (b .bytes) s 0 = number-exactly t (b .bytes) s 0 .0 (eqb-true _ _ e) in
+      by-test (eqb (taken t (b .input) s .told .number) 0)
+      (λ e. let h : Numbered t (b .input) s 0 = number-exactly t (b .input) s 0 .0 (eqb-true _ _ e) in
       by-test (ltb (a .thread) (t .count))
       (λ f. by-test (ranged a) (λ r. here (moves h (ltb-true _ _ f) (ranged-sound a r)))
       (λ r. here (out-of-range h (ltb-true _ _ f) (λ k. refuted (ranged-complete a k) r))))
       (λ f. here (no-thread h (ltb-false _ _ f))))
-      (λ e. here (of-the-step (number-exactly t (b .bytes) s _ .0 refl) (eqb-false _ _ e)))
+      (λ e. here (of-the-step (number-exactly t (b .input) s _ .0 refl) (eqb-false _ _ e)))
 
   -- each number, and 0, exactly when its row holds; a number without a row never
   pub drive-number-exactly : (n : ℕ) → (driven t b s a .told .number ≡ n) ↔ Drive-numbered t b s a n
@@ -106,20 +106,21 @@ pub drive-refused-keeps : (t : Table) (b : Brought) (s : State) (a : Actuator) �
 unfolding driven follows
 drive-refused-keeps t b s a =
     let P : Drove → Type 0 = λ x. 0 < x .told .number → (x .state ≡ s) × (x .actuator ≡ a) in
-    let n : ℕ = taken t (b .bytes) s .told .number in
+    let n : ℕ = taken t (b .input) s .told .number in
     either P (eqb n 0)
     (λ e. both-ways P _ _ _
-    (both-ways P _ _ _ (λ h. absurd (omega (arith, eqb-true (taken t (b .bytes) s .told .number) 0 e))) (λ h. (refl, refl)))
+    (both-ways P _ _ _ (λ h. absurd (omega (arith, eqb-true (taken t (b .input) s .told .number) 0 e))) (λ h. (refl, refl)))
     (λ h. (refl, refl)))
     (λ e h. (refl, refl))
 
--- The number hangs on how many bytes there are, and neither on what they are nor on the command.
-pub drive-same-refusal : (t : Table) (b c : Brought) (s : State) (a : Actuator) → length (b .bytes) ≡ length (c .bytes)
+-- The number hangs on the mask and on how many bytes there are, and neither on what they are nor on the command.
+pub drive-same-refusal : (t : Table) (b c : Brought) (s : State) (a : Actuator) → b .input .mask ≡ c .input .mask
+    → length (b .input .bytes) ≡ length (c .input .bytes)
     → driven t b s a .told .number ≡ driven t c s a .told .number
-drive-same-refusal t b c s a l = only t b s a (moved (given t c s a))
+drive-same-refusal t b c s a e l = only t b s a (moved (given t c s a))
   where
-    numbered : {n : ℕ} → Numbered t (c .bytes) s n → Numbered t (b .bytes) s n
-    numbered {n} h = number-exactly t (b .bytes) s n .0 (same-refusal t (b .bytes) (c .bytes) s l ∙ number-exactly t (c .bytes) s n .1 h)
+    numbered : {n : ℕ} → Numbered t (c .input) s n → Numbered t (b .input) s n
+    numbered {n} h = number-exactly t (b .input) s n .0 (same-refusal t (b .input) (c .input) s e l ∙ number-exactly t (c .input) s n .1 h)
 
     moved : {n : ℕ} → Drive-numbered t c s a n → Drive-numbered t b s a n
     moved (of-the-step h z) = of-the-step (numbered h) z

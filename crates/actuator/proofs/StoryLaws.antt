@@ -13,6 +13,7 @@ use Rattle.sight.specs.Shown.{visible}
 use Rattle.isolation.specs.Isolated.{ended, next}
 use Rattle.isolation.proofs.OnStory.{story-legal, same-step}
 use Rattle.actuator.specs.Motion.{start}
+use Rattle.walk.specs.Step.{quiet}
 use Rattle.actuator.specs.Drive.{Brought}
 use Rattle.actuator.specs.Runs.{positions, Same-runs}
 use Rattle.example.specs.Story.{story}
@@ -23,7 +24,7 @@ use Rattle.actuator.proofs.IsolatedDrives.{same-positions}
 unfoldable pub monitor-sends : List ℕ → List ℤ → List Brought
 monitor-sends [] cs = []
 monitor-sends (x ∷ xs) [] = []
-monitor-sends (x ∷ xs) (c ∷ cs) = record { bytes = 1 ∷ 1 ∷ x ∷ []; command = c } ∷ monitor-sends xs cs
+monitor-sends (x ∷ xs) (c ∷ cs) = record { input = quiet (1 ∷ 1 ∷ x ∷ []); command = c } ∷ monitor-sends xs cs
 
 -- The pitch loop's domain may see its own thread.
 pitch-seen : visible story 0 0 ≡ true
@@ -42,7 +43,7 @@ same-runs (x ∷ xs) (y ∷ ys) (c ∷ cs) h =
 
 -- The actuator may start anywhere and have any rate.
 pub whatever-the-monitor-sends : (xs ys : List ℕ) (cs : List ℤ) → length xs ≡ length ys → (p : ℤ) (rate : ℕ)
-    → positions story (monitor-sends xs cs) fresh (start p rate 0) ≡ positions story (monitor-sends ys cs) fresh (start p rate 0)
+    → positions story (monitor-sends xs cs) (fresh story) (start p rate 0) ≡ positions story (monitor-sends ys cs) (fresh story) (start p rate 0)
 unfolding start
 whatever-the-monitor-sends xs ys cs h p rate =
     same-positions story story-legal (record { rows = refl; threads = refl }) 0 (lit< tt) (start p rate 0) pitch-seen

@@ -1,7 +1,6 @@
 -- A call of the drive: the scheduler's step and the actuator's move, or the number that it is refused with: the step's own, then
 -- 15, then 20.
 use Prim.Native.Nat.{ℕ}
-use mathlib.Core.List.{List}
 use mathlib.Core.Bool.{Bool, false}
 use lib.Dec.{eqb, ltb}
 use lib.IntN.{ℤ}
@@ -11,15 +10,16 @@ use Rattle.table.specs.declared.Table.{Table}
 use Rattle.scheduler.specs.Taken.{Taken, taken, told}
 use Rattle.scheduler.specs.Taken.{answer-of}
 use Rattle.state.specs.declared.State.{State}
+use Rattle.walk.specs.Step.{Input}
 use Rattle.walk.specs.declared.Answer.{Answer}
 use Rattle.walk.specs.declared.Answer.the-variants.{Ran, IdleFor, Idle}
 use Rattle.actuator.specs.Motion.{ranged, drawn, moved}
 use Rattle.actuator.specs.declared.Actuator.{Actuator}
 use Rattle.actuator.specs.declared.Driven.{Driven}
 
--- What a step brings: the bytes of the threads, and a command number.
+-- What a step brings: what the scheduler is handed, and a command number.
 pub record Brought : Type 0 where
-  pub bytes : List ℕ
+  pub input : Input
   pub command : ℤ
 
 -- What a call gives: document 01's number and values, the scheduler's state, and the actuator.
@@ -58,7 +58,7 @@ follows t x s a r =
     (refused-drive (r .told) s a)
 
 unfoldable pub driven : Table → Brought → State → Actuator → Drove
-driven t b s a = follows t (b .command) s a (taken t (b .bytes) s)
+driven t b s a = follows t (b .command) s a (taken t (b .input) s)
 
 -- What an answer of the code gives.
 abbrev pub drove-of : Driven → Drove

@@ -23,10 +23,10 @@ pub record Ranged (a : Actuator) : Type 0 where
 
 pub data Drive-numbered (t : Table) (b : Brought) (s : State) (a : Actuator) : ℕ → Type 0 where
   -- the step's own number
-  of-the-step : {n : ℕ} → Numbered t (b .bytes) s n → n ≢ 0 → Drive-numbered t b s a n
+  of-the-step : {n : ℕ} → Numbered t (b .input) s n → n ≢ 0 → Drive-numbered t b s a n
   -- 15: no such thread as the one named
-  no-thread : Numbered t (b .bytes) s 0 → t .count ≤ a .thread → Drive-numbered t b s a 15
+  no-thread : Numbered t (b .input) s 0 → t .count ≤ a .thread → Drive-numbered t b s a 15
   -- 20: rate, position or stored command outside its range
-  out-of-range : Numbered t (b .bytes) s 0 → a .thread < t .count → (Ranged a → ⊥) → Drive-numbered t b s a 20
+  out-of-range : Numbered t (b .input) s 0 → a .thread < t .count → (Ranged a → ⊥) → Drive-numbered t b s a 20
   -- 0: a step and a move
-  moves : Numbered t (b .bytes) s 0 → a .thread < t .count → Ranged a → Drive-numbered t b s a 0
+  moves : Numbered t (b .input) s 0 → a .thread < t .count → Ranged a → Drive-numbered t b s a 0

@@ -109,15 +109,15 @@ step-part r = record { told = r .told; state = r .state }
 -- From a fresh start each domain of the table is shown the same of every drive, whatever the commands are.
 abbrev pub Isolated-drives : Table → Type 0
 Isolated-drives t = (d : ℕ) → d < t .domains → (a : Actuator) (us vs : List Brought)
-    → Same-steps t d (map (λ (b : Brought). b .bytes) us) (map (λ (b : Brought). b .bytes) vs)
-    → map (λ (r : Drove). shown-of t d (step-part r)) (drives t us fresh a) ≡ map (λ (r : Drove). shown-of t d (step-part r)) (drives t vs fresh a)
+    → Same-steps t d (map (λ (b : Brought). b .input) us) (map (λ (b : Brought). b .input) vs)
+    → map (λ (r : Drove). shown-of t d (step-part r)) (drives t us (fresh t) a) ≡ map (λ (r : Drove). shown-of t d (step-part r)) (drives t vs (fresh t) a)
 
 -- Two runs that demand 3 speaks of, with the same commands.
 pub record Same-runs (t : Table) (d : ℕ) (us vs : List Brought) : Type 0 where
-  pub steps : Same-steps t d (map (λ (b : Brought). b .bytes) us) (map (λ (b : Brought). b .bytes) vs)
+  pub steps : Same-steps t d (map (λ (b : Brought). b .input) us) (map (λ (b : Brought). b .input) vs)
   pub commands : map (λ (b : Brought). b .command) us ≡ map (λ (b : Brought). b .command) vs
 
 -- With the same actuator at the start, each domain that may see the pitch thread is given the same positions at every step.
 abbrev pub Same-positions : Table → Type 0
 Same-positions t = (d : ℕ) → d < t .domains → (a : Actuator) → visible t d (a .thread) ≡ true → (us vs : List Brought) → Same-runs t d us vs
-    → positions t us fresh a ≡ positions t vs fresh a
+    → positions t us (fresh t) a ≡ positions t vs (fresh t) a

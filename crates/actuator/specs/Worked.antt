@@ -49,10 +49,10 @@ moving = record { position = pos 1000; command = pos 2000; rate = 100; thread = 
 
 -- What a drive with the command 0 gives after a step that tells this.
 abbrev after : Actuator → Told → Drove
-after a n = follows story (pos 0) fresh a (record { told = n; state = fresh })
+after a n = follows story (pos 0) (fresh story) a (record { told = n; state = fresh story })
 
 abbrev gives : Told → ℤ → ℤ → Drove
-gives n p c = record { told = n; state = fresh; actuator = record { position = p; command = c; rate = 100; thread = 0 } }
+gives n p c = record { told = n; state = fresh story; actuator = record { position = p; command = c; rate = 100; thread = 0 } }
 
 -- The command is taken if thread 0 runs; not if another runs, if the processor idles on thread 0's account, or if it idles. The
 -- position moves each time.
@@ -64,7 +64,7 @@ taken-or-not = refl
 
 -- A refused step keeps its number and moves nothing, even where thread and rate are wrong too.
 pub step-first : after (record { position = pos 1000; command = pos 2000; rate = 0; thread = 3 }) (refused 12)
-    ≡ record { told = refused 12; state = fresh; actuator = record { position = pos 1000; command = pos 2000; rate = 0; thread = 3 } }
+    ≡ record { told = refused 12; state = fresh story; actuator = record { position = pos 1000; command = pos 2000; rate = 0; thread = 3 } }
 unfolding opened
 step-first = refl
 
@@ -92,7 +92,7 @@ abbrev kept-outside : ℤ → Type 0
 kept-outside p =
     (start p 100 0 ≡ record { position = p; command = p; rate = 100; thread = 0 })
     × (after (start p 100 0) (answered (2 ∷ []))
-    ≡ record { told = refused 20; state = fresh; actuator = record { position = p; command = p; rate = 100; thread = 0 } })
+    ≡ record { told = refused 20; state = fresh story; actuator = record { position = p; command = p; rate = 100; thread = 0 } })
 
 pub start-outside : kept-outside (pos 95001) × kept-outside (negℤ (pos 5001))
 unfolding opened
@@ -110,7 +110,7 @@ ends-pass = refl
 unfoldable pub along : List Answer → ℤ → Actuator → List ℤ
 along ns x a =
     map (λ (r : Drove). r .actuator .position)
-    (in-turn (λ (n : Answer) (b : Actuator). follows story x fresh b (record { told = answered (values n); state = fresh })) (λ (r : Drove). r .actuator) ns a)
+    (in-turn (λ (n : Answer) (b : Actuator). follows story x (fresh story) b (record { told = answered (values n); state = fresh story })) (λ (r : Drove). r .actuator) ns a)
 
 -- At first the command is the start position: thread 1's actuator at -300 stays there until thread 1 runs, and then moves by its rate, 7.
 pub at-first : along (IdleFor 1 ∷ Idle ∷ Ran 0 ∷ Ran 1 ∷ []) (pos 10000) (start (negℤ (pos 300)) 7 1)

@@ -53,10 +53,10 @@ fn refuse(why: u8, s: State, a: Actuator) -> Driven
 }
 
 // One step and one move: the step's own refusals, 15, 20, or the answer with the next state and actuator.
-pub fn drive(t: Table, s: State, a: Actuator, bytes: &[u8], command: i64) -> Driven
-    ensures { λ r. ⌜ drove-of r ≡ driven t (record { bytes = now (bytes .entry); command = command }) s a ⌝ }
+pub fn drive(t: Table, s: State, a: Actuator, mask: u32, bytes: &[u8], command: i64) -> Driven
+    ensures { λ r. ⌜ drove-of r ≡ driven t (record { input = record { mask = mask; bytes = now (bytes .entry) }; command = command }) s a ⌝ }
 {
-    let r = step(t, s, bytes);
+    let r = step(t, s, mask, bytes);
     let o = r.outcome;
     match o {
         Outcome::Chose(answer) => {

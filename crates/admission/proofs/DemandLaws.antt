@@ -59,8 +59,8 @@ demand-mono t g i {x} {y} l =
     (λ h k. share-mono (thread t i) (thread t h) (g .threads h k .period-low) l))
 
 -- In 60,000 steps a thread brings at most 119,998: a period of 60,000 begins once, and a shorter one reaches less than itself past the length.
-brings-most : (d : ℕ) (h : Thread) → Legal-thread d h → (x : ℕ) → x ≤ 60000 → ceil x (h .period) * h .budget ≤ 119998
-brings-most d h g x l = go (decLt (h .period) 60000)
+brings-most : (v d : ℕ) (h : Thread) → Legal-thread v d h → (x : ℕ) → x ≤ 60000 → ceil x (h .period) * h .budget ≤ 119998
+brings-most v d h g x l = go (decLt (h .period) 60000)
   where
     go : Dec (h .period < 60000) → ceil x (h .period) * h .budget ≤ 119998
     go (yes k) =
@@ -70,10 +70,10 @@ brings-most d h g x l = go (decLt (h .period) 60000)
         let w : h .budget ≤ 60000 = omega (arith, g .budget-high, g .period-high) in
         omega (arith, mul-le-mul {n₂ = 1} {m₂ = 60000} one w)
 
-share-most : (d : ℕ) (own h : Thread) → Legal-thread d h → (x : ℕ) → x ≤ 60000 → share own x h ≤ 119998
+share-most : (v d : ℕ) (own h : Thread) → Legal-thread v d h → (x : ℕ) → x ≤ 60000 → share own x h ≤ 119998
 unfolding share
-share-most d own h g x l =
-    either (λ (n : ℕ). n ≤ 119998) (above own h) (λ e. brings-most d h g x l) (λ e. omega arith)
+share-most v d own h g x l =
+    either (λ (n : ℕ). n ≤ 119998) (above own h) (λ e. brings-most v d h g x l) (λ e. omega arith)
 
 -- The largest demand: 60,000 of the thread's own, and 31 threads above it with 119,998 each.
 pub demand-most : (t : Table) → Legal t → (i x : ℕ) → i < t .count → x ≤ 60000 → demand t i x ≤ 3779938
@@ -81,7 +81,7 @@ unfolding demand
 demand-most t g i x k l =
     let own = thread t i in
     let s = sum-but-one (λ h. share own x (thread t h)) 119998 (t .count) i k (share-other own own x (le-refl _))
-    (λ h u. share-most (t .domains) own (thread t h) (g .threads h u) x l) in
+    (λ h u. share-most (t .version) (t .domains) own (thread t h) (g .threads h u) x l) in
     omega (arith, s, g .count-high, g .threads i k .budget-high, g .threads i k .period-high)
 
 -- No sum on the way to a demand is larger than it.

@@ -22,6 +22,7 @@ ready i = thread-of (0 ∷ (1 + i) ∷ 59999 ∷ 0 ∷ 59999 ∷ 59999 ∷ 0 ∷
 
 abbrev pub most-demanded : Table
 most-demanded = record {
+  version = 1;
   domains = 1;
   count = 32;
   rows = 1 ∷ replicate 15 0;
@@ -45,6 +46,7 @@ waiting i = thread-of (0 ∷ (1 + i) ∷ 60000 ∷ 0 ∷ 60000 ∷ 60000 ∷ 600
 
 abbrev pub most-prohibited : Table
 most-prohibited = record {
+  version = 1;
   domains = 2;
   count = 32;
   rows = 1 ∷ 2 ∷ replicate 14 0;

@@ -92,16 +92,16 @@ module _ (t : Table) (l : ℕ) where
   prohibiting-exactly w = (λ e. subst (λ (v : Told). Prohibition-answer t l v) e answer-given, λ r. answer-only r)
 
 -- A thread brings at most 60,000 times 60,000: a blocking share of 60,000 for each step of its period.
-brings-most : (d : ℕ) (own h : Thread) → 1 ≤ own .period → Legal-thread d h → ceil (h .period) (own .period) * h .blocking ≤ 60000 * 60000
-brings-most d own h p g =
+brings-most : (v d : ℕ) (own h : Thread) → 1 ≤ own .period → Legal-thread v d h → ceil (h .period) (own .period) * h .blocking ≤ 60000 * 60000
+brings-most v d own h p g =
     let c : ceil (h .period) (own .period) ≤ 60000 = le-trans (ceil-le (h .period) (own .period) p) (g .period-high) in
     let b : h .blocking ≤ 60000 = omega (arith, g .blocking-high, g .budget-high, g .period-high) in
     mul-le-mul {n₂ = 60000} {m₂ = 60000} c b
 
-stretch-most : (d : ℕ) (own h : Thread) (m : Bool) → 1 ≤ own .period → Legal-thread d h → stretch own m h ≤ 60000 * 60000
+stretch-most : (v d : ℕ) (own h : Thread) (m : Bool) → 1 ≤ own .period → Legal-thread v d h → stretch own m h ≤ 60000 * 60000
 unfolding stretch
-stretch-most d own h m p g =
-    either (λ (n : ℕ). n ≤ 60000 * 60000) (and m (above own h)) (λ e. brings-most d own h p g) (λ e. omega arith)
+stretch-most v d own h m p g =
+    either (λ (n : ℕ). n ≤ 60000 * 60000) (and m (above own h)) (λ e. brings-most v d own h p g) (λ e. omega arith)
 
 -- The largest prohibition time: 31 threads above with 3,600,000,000 each.
 pub prohibition-most : (t : Table) → Legal t → (l : ℕ) → l < t .count → prohibition t l ≤ 111600000000
@@ -110,7 +110,7 @@ prohibition-most t g l k =
     let own = thread t l in
     let s = sum-but-one (λ h. stretch own (marked t h) (thread t h)) (60000 * 60000) (t .count) l k
     (stretch-other own own (marked t l) (le-refl _))
-    (λ h u. stretch-most (t .domains) own (thread t h) (marked t h) (g .threads l k .period-low) (g .threads h u)) in
+    (λ h u. stretch-most (t .version) (t .domains) own (thread t h) (marked t h) (g .threads l k .period-low) (g .threads h u)) in
     omega (arith, s, g .count-high)
 
 -- No sum on the way is larger.

@@ -4,3 +4,4 @@ pub mod CeilLaws
 pub mod ListLaws
 pub mod TurnLaws
 pub mod BackLaws
+pub mod SpacedLaws

@@ -3,3 +3,4 @@ pub mod Search
 pub mod Told
 pub mod Ceil
 pub mod Turns
+pub mod Spaced

@@ -1,4 +1,4 @@
--- Example E of document 01, from its bytes to the text it prints.
+-- Example E of document 01, from its bytes to the text it prints; and E with an event thread.
 use Prim.Native.Nat.{ℕ}
 use mathlib.Core.Path.{_≡_, refl}
 use mathlib.Core.List.{List, [], _∷_, _++_}
@@ -23,10 +23,13 @@ idle-for k i = k ∷ 0x20 ∷ 0x49 ∷ i ∷ 0x0A ∷ []
 abbrev idle : ℕ → List ℕ
 idle k = k ∷ 0x20 ∷ 0x2D ∷ 0x2D ∷ 0x0A ∷ []
 
+-- threads 2
+abbrev two-threads : List ℕ
+two-threads = 0x74 ∷ 0x68 ∷ 0x72 ∷ 0x65 ∷ 0x61 ∷ 0x64 ∷ 0x73 ∷ 0x20 ∷ 0x32 ∷ 0x0A ∷ []
+
 abbrev pub text : List ℕ
 text =
-    -- threads 2
-    (0x74 ∷ 0x68 ∷ 0x72 ∷ 0x65 ∷ 0x61 ∷ 0x64 ∷ 0x73 ∷ 0x20 ∷ 0x32 ∷ 0x0A ∷ [])
+    two-threads
     ++ ran 0x30 0x30
     ++ idle-for 0x31 0x30 ++ idle-for 0x32 0x30 ++ idle-for 0x33 0x30
     ++ ran 0x34 0x31 ++ ran 0x35 0x31 ++ ran 0x36 0x31
@@ -37,3 +40,24 @@ text =
 pub example-printed : bench-text example-bytes step-bytes ≡ text
 unfolding reader-opened steps-opened report-opened ceil with-step play played last-line run-text judged-text
 example-printed = refl
+
+-- E in version 2, with thread 1 released by events: every step has an empty mask, so that it never runs.
+abbrev event-bytes : List ℕ
+event-bytes =
+    0x02 ∷ 0x02 ∷ 0x02 ∷ 0x03 ∷ 0x02
+    ∷ 0x01 ∷ 0x1E ∷ 0x0A ∷ 0x00 ∷ 0x04 ∷ 0x0A ∷ 0x02 ∷ 0x00
+    ∷ 0x00 ∷ 0x14 ∷ 0x0A ∷ 0x00 ∷ 0x03 ∷ 0x0A ∷ 0x00 ∷ 0x01 ∷ []
+
+abbrev event-text : List ℕ
+event-text =
+    two-threads
+    ++ ran 0x30 0x30
+    ++ idle-for 0x31 0x30 ++ idle-for 0x32 0x30 ++ idle-for 0x33 0x30
+    ++ idle 0x34 ++ idle 0x35 ++ idle 0x36
+    ++ idle 0x37 ++ idle 0x38 ++ idle 0x39
+    -- end 10
+    ++ (0x65 ∷ 0x6E ∷ 0x64 ∷ 0x20 ∷ 0x31 ∷ 0x30 ∷ 0x0A ∷ [])
+
+pub event-printed : bench-text event-bytes step-bytes ≡ event-text
+unfolding reader-opened steps-opened report-opened ceil with-step play played last-line run-text judged-text
+event-printed = refl

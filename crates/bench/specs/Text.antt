@@ -10,7 +10,7 @@ use Rattle.basis.specs.Ceil.{ceil}
 use Rattle.table.specs.declared.Table.{Table}
 use Rattle.reader.specs.Reader.{Read, reading}
 use Rattle.state.specs.State.{fresh}
-use Rattle.walk.specs.Step.{step}
+use Rattle.walk.specs.Step.{quiet, step}
 use Rattle.scheduler.specs.Taken.{Taken, taken}
 use Rattle.walk.specs.declared.Answer.{Answer}
 use Rattle.state.specs.declared.State.{State}
@@ -30,9 +30,9 @@ with-step r a k = record {
   why = k .told .number;
 }
 
--- One step more, with these bytes, unless the run has ended.
+-- One step more, with these bytes and an empty mask, unless the run has ended.
 unfoldable pub play : Table → List ℕ → Run → Run
-play t bs r = pick (eqb (r .why) 0) (with-step r (step t bs (r .state) .answer) (taken t bs (r .state))) r
+play t bs r = pick (eqb (r .why) 0) (with-step r (step t (quiet bs) (r .state) .answer) (taken t (quiet bs) (r .state))) r
 
 -- The bytes of step k where each step has n: the last may have fewer.
 abbrev pub bytes-of : ℕ → ℕ → List ℕ → List ℕ
@@ -58,7 +58,7 @@ closed r = r .lines ++ last-line (r .why) (r .state .clock)
 
 -- `threads N`, a line a step, the last line.
 unfoldable pub run-text : Table → List ℕ → List ℕ
-run-text t bs = threads-line (t .count) ++ closed (played-all t bs (from fresh))
+run-text t bs = threads-line (t .count) ++ closed (played-all t bs (from (fresh t)))
 
 -- A refused table prints one line only.
 unfoldable pub judged-text : Read → List ℕ → List ℕ

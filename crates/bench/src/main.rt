@@ -68,7 +68,8 @@ fn run(t: Table)
 {
     let mut steps = [0u8; 128000];
     let mut out = io::large_buffer();
-    let mut s = fresh();
+    let start = fresh(t);
+    let mut s = start.state;
     let mut turns = turns_left(1000000000, say_threads(&mut out, t.count));
     while 0 < turns {
         let r = take_turn(t, s, &mut steps, &mut out);
@@ -94,8 +95,8 @@ fn judge(bytes: &[u8]) {
     }
 }
 
-// The first 1,024 bytes of a file have the verdict of the whole: 730 do, by `reading-front` of crate codec, since no more
-// than 243 numbers of three bytes each are read, and then it only matters whether one more byte is there.
+// The first 1,024 bytes of a file have the verdict of the whole: 826 do, by `reading-front` of crate codec, since no more
+// than 275 numbers of three bytes each are read, and then it only matters whether one more byte is there.
 fn main() {
     let mut bytes = [0u8; 1024];
     let got = load(&mut bytes);

@@ -33,7 +33,7 @@ fn put_step(out: &mut [u8], at: usize, clock: u32, answer: Answer) -> usize
     }
 }
 
-// One step more, unless the run was refused before.
+// One step more, with an empty mask of events, unless the run was refused before.
 fn play_on(t: Table, p: Played, bytes: &[u8], out: &mut [u8]) -> Played
     requires { ⌜ p .next + 16 ≤ length (now out) ⌝ }
     ensures { λ r. ⌜ (r .next ≤ p .next + 16) × Plays (now (out .entry)) p (now (out .exit)) r (the-play t (now (bytes .entry)) (run-of p)) ⌝ }
@@ -43,7 +43,7 @@ fn play_on(t: Table, p: Played, bytes: &[u8], out: &mut [u8]) -> Played
     }
     let s = p.state;
     let at = p.next;
-    let r = step(t, s, bytes);
+    let r = step(t, s, 0, bytes);
     let after = r.state;
     let o = r.outcome;
     match o {

@@ -3,6 +3,8 @@ mod play;
 mod views;
 
 pub use play::Played;
+pub use play::event;
+pub use play::fresh;
 pub use play::marks;
 pub use play::some_length;
 pub use play::step;
@@ -32,3 +34,13 @@ pub const GAP: u32 = 44;
 pub const SHOWN: u32 = 45;
 
 pub const UNSHOWN: u32 = 46;
+
+pub const STARTED: u32 = 47;
+
+pub const UNSTARTED: u32 = 48;
+
+pub const RELEASED: u32 = 49;
+
+pub const LOST: u32 = 50;
+
+pub const NO_EVENT: u32 = 51;

@@ -1,22 +1,30 @@
 // Both sides play, and the kind of what they say is told where they agree.
 use crate::IDLE;
 use crate::IDLE_FOR;
+use crate::LOST;
 use crate::MARKED;
+use crate::NO_EVENT;
 use crate::NOT_LEGAL;
 use crate::RAN;
 use crate::REFUSED;
+use crate::RELEASED;
+use crate::STARTED;
 use crate::UNMARKED;
+use crate::UNSTARTED;
 use dice::below;
 use dice::below8;
 use same::outcome_number;
 use same::same_state;
 use scheduler::Answer;
 use scheduler::Outcome;
+use scheduler::Progress;
+use scheduler::Starting;
 use scheduler::State;
 use scheduler::Stepped;
 use table::Mark;
 use table::Marking;
 use table::Table;
+use table::Thread;
 use tally::WRONG;
 
 // What a step gave, by its kind, and the state after it.
@@ -45,9 +53,9 @@ fn is_same(ours: Stepped, theirs: Stepped, s: State) -> bool {
     (number == outcome_number(b)) & same_state(ours.state, theirs.state) & unmoved
 }
 
-fn both(t: Table, s: State, bytes: &[u8]) -> Played {
-    let ours = scheduler::step(t, s, bytes);
-    let theirs = rival::step(t, s, bytes);
+fn both(t: Table, s: State, mask: u32, bytes: &[u8]) -> Played {
+    let ours = scheduler::step(t, s, mask, bytes);
+    let theirs = rival::step(t, s, mask, bytes);
     let o = ours.outcome;
     let state = ours.state;
     let kind = if is_same(ours, theirs, s) {
@@ -58,13 +66,41 @@ fn both(t: Table, s: State, bytes: &[u8]) -> Played {
     Played { kind, state }
 }
 
-// A step on the first n bytes.
-pub fn step(t: Table, s: State, bytes: &[u8], n: u8) -> Played {
+// A step with the events of a mask, on the first n bytes.
+pub fn step(t: Table, s: State, mask: u32, bytes: &[u8], n: u8) -> Played {
     let end = n as usize;
     if end <= bytes.len() {
-        return both(t, s, &bytes[..end]);
+        return both(t, s, mask, &bytes[..end]);
     }
-    both(t, s, bytes)
+    both(t, s, mask, bytes)
+}
+
+// What becomes of thread i's event in a step that is made, for the count alone: the thread is released, or the event came too early.
+pub fn event(f: Thread, p: Progress, mask: u32, i: u8) -> u32 {
+    if mask >> i % 32 & 1 == 0 {
+        return NO_EVENT;
+    }
+    if p.since < f.period { LOST } else { RELEASED }
+}
+
+fn starting_number(a: Starting) -> u32 {
+    match a {
+        Starting::Done => 0,
+        Starting::NotLegal => 1011,
+    }
+}
+
+// The state before the first step.
+pub fn fresh(t: Table) -> u32 {
+    let ours = scheduler::fresh(t);
+    let theirs = rival::fresh(t);
+    let a = ours.answer;
+    let b = theirs.answer;
+    let number = starting_number(a);
+    if (number != starting_number(b)) | !same_state(ours.state, theirs.state) {
+        return WRONG;
+    }
+    if number == 0 { STARTED } else { UNSTARTED }
 }
 
 // A number of bytes that is often not the number of threads.

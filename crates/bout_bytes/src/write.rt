@@ -43,10 +43,10 @@ fn wanted(t: Table, len: usize, room: usize, at: usize) -> usize {
 }
 
 // Whether the bytes stand from a place up to another, and all others are as before.
-fn is_there(buf: [u8; 800], bytes: [u8; 800], from: usize, to: usize) -> bool {
+fn is_there(buf: [u8; 900], bytes: [u8; 900], from: usize, to: usize) -> bool {
     let mut same = true;
-    for i in 0..800usize {
-        let there = bytes[wrapping_sub_usize(i, from) % 800];
+    for i in 0..900usize {
+        let there = bytes[wrapping_sub_usize(i, from) % 900];
         let want = if (from <= i) & (i < to) {
             there
         } else {
@@ -62,15 +62,15 @@ pub fn written(seed: u64, t: Table) -> u32 {
     let page = rival_bytes::write(t);
     let bytes = page.bytes;
     let at = below(seed, 31, 60) as usize;
-    let end = wrapping_add_usize(at, page.len) % 800;
+    let end = wrapping_add_usize(at, page.len) % 900;
     let room = match below(seed, 32, 8) {
-        0 => wrapping_sub_usize(end, 1) % 800,
+        0 => wrapping_sub_usize(end, 1) % 900,
         1 => at / 2,
         2 | 3 => end,
-        4 => wrapping_add_usize(end, 1) % 801,
-        _ => 800,
+        4 => wrapping_add_usize(end, 1) % 901,
+        _ => 900,
     };
-    let mut buf = [BEFORE; 800];
+    let mut buf = [BEFORE; 900];
     let number = put(t, &mut buf, room, at);
     let to = if number < 100000 { number } else { 0 };
     if (number != wanted(t, page.len, room, at)) | !is_there(buf, bytes, at, to) {

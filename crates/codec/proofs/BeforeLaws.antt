@@ -10,12 +10,12 @@ use lib.ListN.{length, getD, take, drop, length-append, take-append-drop, List·
 use lib.Seq.{take-append-seam, take-append-le, take-suc, take-all, take-length, getD-append-seam, getD-drop, split-at}
 use lib.Dec.{eqb, ltb}
 use borrow.Author.Tests.{eqb-true, eqb-false, ltb-true, ltb-false}
-use Rattle.basis.specs.Tests.{pick}
+use Rattle.basis.specs.Tests.{pick, or}
 use Rattle.basis.specs.Told.{Told, answered, refused}
 use Rattle.basis.proofs.TestLaws.{by-test}
 use Rattle.flow.specs.Flow.{row-ok}
 use Rattle.flow.proofs.FlowLaws.{row-small}
-use Rattle.table.specs.Threads.{field-count}
+use Rattle.table.specs.Threads.{fields-in}
 use Rattle.table.specs.Ranges.{within, domain-counts, thread-counts, field-range}
 use Rattle.table.specs.declared.Range.{Range}
 use Rattle.table.proofs.RangeLaws.{within-high, below-small}
@@ -69,31 +69,38 @@ unfolding pick
 passes true x w h e = (refl, e)
 passes false x w h e = absurd (omega arith)
 
+-- A version that passes is 1 or 2.
+pub one-or-two : (v : ℕ) → or (eqb v 1) (eqb v 2) ≡ true → (1 ≤ v) × (v ≤ 2)
+one-or-two v e =
+    by-test (eqb v 1) (λ t. omega (arith, eqb-true v 1 t))
+    (λ t. let u : eqb v 2 ≡ true = rw t at e in omega (arith, eqb-true v 2 u))
+
 -- Each number is one that the bytes can hold, and the second is a count of domains.
 record Small (vs : List ℕ) : Type 0 where
   each : (k : ℕ) → getD vs k 0 < 65536
   domains : getD vs 1 0 ≤ 16
 
-field-small : (d : ℕ) (fs : List ℕ) (v : ℕ) → d < 65536 → ((j : ℕ) → getD fs j 0 < 65536) → field-fault d fs v ≡ 0 → v < 65536
+field-small : (x d : ℕ) (fs : List ℕ) (v : ℕ) → d < 65536 → ((j : ℕ) → getD fs j 0 < 65536) → field-fault x d fs v ≡ 0 → v < 65536
 unfolding field-fault
-field-small d fs v h e f =
-    let i : ℕ = length fs / field-count in
-    let r : Range = field-range d (drop (field-count * i) fs) (length fs % field-count) in
+field-small x d fs v h e f =
+    let w : ℕ = fields-in x in
+    let i : ℕ = length fs / w in
+    let r : Range = field-range x d (drop (w * i) fs) (length fs % w) in
     let p = passes (within r v) _ 8 (omega arith) f in
-    let small : (j : ℕ) → getD (drop (field-count * i) fs) j 0 < 65536 = λ j. rw (getD-drop (field-count * i) fs j 0) (e (field-count * i + j)) in
-    let l : r .below ≤ 65536 = below-small d (drop (field-count * i) fs) (length fs % field-count) h (small 2) (small 4) in
+    let small : (j : ℕ) → getD (drop (w * i) fs) j 0 < 65536 = λ j. rw (getD-drop (w * i) fs j 0) (e (w * i + j)) in
+    let l : r .below ≤ 65536 = below-small x d (drop (w * i) fs) (length fs % w) h (small 2) (small 4) in
     omega (arith, within-high r v (p .0))
 
 passed-small : (vs : List ℕ) (v : ℕ) → Small vs → fault vs v ≡ 0 → v < 65536
 unfolding fault pick
-passed-small [] v h e = omega (arith, eqb-true v 1 (passes (eqb v 1) 0 4 (omega arith) e .0))
+passed-small [] v h e = omega (arith, one-or-two v (passes (or (eqb v 1) (eqb v 2)) 0 4 (omega arith) e .0))
 passed-small (x ∷ []) v h e = omega (arith, within-high domain-counts v (passes (within domain-counts v) 0 5 (omega arith) e .0))
 passed-small (x ∷ d ∷ []) v h e = omega (arith, within-high thread-counts v (passes (within thread-counts v) 0 5 (omega arith) e .0))
 passed-small (x ∷ d ∷ n ∷ vs) v h e = go (ltb (length vs) d) e
   where
-    go : (b : Bool) → pick b (pick (row-ok d (length vs) v) 0 6) (field-fault d (drop d vs) v) ≡ 0 → v < 65536
+    go : (b : Bool) → pick b (pick (row-ok d (length vs) v) 0 6) (field-fault x d (drop d vs) v) ≡ 0 → v < 65536
     go true f = row-small d (length vs) v (h .domains) (passes (row-ok d (length vs) v) 0 6 (omega arith) f .0)
-    go false f = field-small d (drop d vs) v (h .each 1) (λ j. rw (getD-drop d vs j 0) (h .each (suc (suc (suc (d + j)))))) f
+    go false f = field-small x d (drop d vs) v (h .each 1) (λ j. rw (getD-drop d vs j 0) (h .each (suc (suc (suc (d + j)))))) f
 
 small-next : (vs : List ℕ) (v : ℕ) → Small vs → fault vs v ≡ 0 → Small (vs ++ (v ∷ []))
 unfolding fault

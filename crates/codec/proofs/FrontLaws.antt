@@ -15,19 +15,20 @@ use Rattle.basis.specs.Search.{Sought, nothing, found}
 use Rattle.basis.proofs.TestLaws.{by-test, both-ways}
 use Rattle.flow.specs.Flow.{row-ok}
 use Rattle.flow.specs.Gap.{Triple, first-gap}
-use Rattle.table.specs.Threads.{field-count}
-use Rattle.table.specs.Ranges.{range, within, domain-counts, thread-counts, field-range}
+use Rattle.table.specs.Threads.{field-count, fields-in}
+use Rattle.table.specs.Ranges.{within, versions, domain-counts, thread-counts, field-range}
 use Rattle.table.specs.declared.Range.{Range}
 use Rattle.table.specs.declared.Thread.{Thread}
 use Rattle.numeral.specs.declared.Number.{Number}
 use Rattle.numeral.specs.declared.Number.the-variants.{Value, Refused}
 use Rattle.numeral.specs.Number.{third, second, number, number-at}
+use Rattle.table.proofs.RangeLaws.{fields-in-most}
 use Rattle.reader.specs.declared.Cursor.{Cursor}
 use Rattle.reader.specs.declared.RowsRead.{RowsRead}
 use Rattle.reader.specs.Reader.{took, good, bad, number-from, judged, ranged, row-from, rows-from, free, field-from, fields-from, threads-from, ended, after-rows, version-from, domains-from, count-from, reading}
 use Rattle.reader.proofs.ReaderLaws.{ranged-le}
 
--- So many bytes: 730.
+-- So many bytes: 826.
 abbrev pub front : ℕ
 front = 3 * (3 + 16 + 32 * field-count) + 1
 
@@ -116,7 +117,7 @@ module _ (n : ℕ) (s : List ℕ) where
   ranged-same c r why b h k = rw (from-same c b h k)
 
   -- the rows
-  module _ (d : ℕ) where
+  module _ (x d : ℕ) where
     row-near : (i : ℕ) (c : Cursor) (b : ℕ) → Before c b → Before (row-from s d i c) (b + 3)
     unfolding row-from
     row-near i c b h = judged-near (number-from s c) _ 6 (b + 3) (from-near c b h)
@@ -139,46 +140,47 @@ module _ (n : ℕ) (s : List ℕ) where
 
     -- the fields of a thread
     module _ (ths : List Thread) (j : ℕ) where
-      field-near : (vs : List ℕ) (k : ℕ) (c : Cursor) (b : ℕ) → Before c b → Before (field-from s d ths j vs k c) (b + 3)
+      field-near : (vs : List ℕ) (k : ℕ) (c : Cursor) (b : ℕ) → Before c b → Before (field-from s x d ths j vs k c) (b + 3)
       unfolding field-from
-      field-near vs k c b h = judged-near (ranged s c (field-range d vs k) 8) _ 9 (b + 3) (ranged-near c (field-range d vs k) 8 b h)
+      field-near vs k c b h = judged-near (ranged s c (field-range x d vs k) 8) _ 9 (b + 3) (ranged-near c (field-range x d vs k) 8 b h)
 
       field-same : (vs : List ℕ) (k : ℕ) (c : Cursor) (b : ℕ) → Before c b → b + 3 ≤ n →
-          field-from (take n s) d ths j vs k c ≡ field-from s d ths j vs k c
+          field-from (take n s) x d ths j vs k c ≡ field-from s x d ths j vs k c
       unfolding field-from
-      field-same vs k c b h l = rw (ranged-same c (field-range d vs k) 8 b h l)
+      field-same vs k c b h l = rw (ranged-same c (field-range x d vs k) 8 b h l)
 
-      fields-near : (c : Cursor) (b k : ℕ) → Before c b → Before (fields-from s d ths j c k .cursor) (b + k * 3)
+      fields-near : (c : Cursor) (b k : ℕ) → Before c b → Before (fields-from s x d ths j c k .cursor) (b + k * 3)
       unfolding fields-from
       fields-near c b zero h = later (b + 0 * 3) h (omega arith)
       fields-near c b (suc k) h =
           later (b + suc k * 3)
-          (field-near (fields-from s d ths j c k .fields) k (fields-from s d ths j c k .cursor) (b + k * 3) (fields-near c b k h)) (omega arith)
+          (field-near (fields-from s x d ths j c k .fields) k (fields-from s x d ths j c k .cursor) (b + k * 3) (fields-near c b k h)) (omega arith)
 
-      fields-same : (c : Cursor) (b k : ℕ) → Before c b → b + k * 3 ≤ n → fields-from (take n s) d ths j c k ≡ fields-from s d ths j c k
+      fields-same : (c : Cursor) (b k : ℕ) → Before c b → b + k * 3 ≤ n → fields-from (take n s) x d ths j c k ≡ fields-from s x d ths j c k
       unfolding fields-from
       fields-same c b zero h l = refl
       fields-same c b (suc k) h l =
           rw (
             fields-same c b k h (omega arith),
-            field-same (fields-from s d ths j c k .fields) k (fields-from s d ths j c k .cursor) (b + k * 3) (fields-near c b k h) (omega arith),
+            field-same (fields-from s x d ths j c k .fields) k (fields-from s x d ths j c k .cursor) (b + k * 3) (fields-near c b k h) (omega arith),
           )
 
     -- the threads
-    threads-near : (c : Cursor) (b i : ℕ) → Before c b → Before (threads-from s d c i .cursor) (b + i * thread-most)
+    threads-near : (c : Cursor) (b i : ℕ) → Before c b → Before (threads-from s x d c i .cursor) (b + i * thread-most)
     unfolding threads-from
     threads-near c b zero h = later (b + 0 * thread-most) h (omega arith)
     threads-near c b (suc i) h =
         later (b + suc i * thread-most)
-        (fields-near (threads-from s d c i .threads) i (threads-from s d c i .cursor) (b + i * thread-most) field-count (threads-near c b i h)) (omega arith)
+        (fields-near (threads-from s x d c i .threads) i (threads-from s x d c i .cursor) (b + i * thread-most) (fields-in x) (threads-near c b i h)) (omega (arith, fields-in-most x))
 
-    threads-same : (c : Cursor) (b i : ℕ) → Before c b → b + i * thread-most ≤ n → threads-from (take n s) d c i ≡ threads-from s d c i
+    threads-same : (c : Cursor) (b i : ℕ) → Before c b → b + i * thread-most ≤ n → threads-from (take n s) x d c i ≡ threads-from s x d c i
     unfolding threads-from
     threads-same c b zero h k = refl
     threads-same c b (suc i) h k =
         rw (
           threads-same c b i h (omega arith),
-          fields-same (threads-from s d c i .threads) i (threads-from s d c i .cursor) (b + i * thread-most) field-count (threads-near c b i h) (omega arith),
+          fields-same (threads-from s x d c i .threads) i (threads-from s x d c i .cursor) (b + i * thread-most) (fields-in x) (threads-near c b i h)
+              (omega (arith, fields-in-most x)),
         )
 
   -- whether a byte stands at a place before n
@@ -187,16 +189,16 @@ module _ (n : ℕ) (s : List ℕ) where
       by-test (ltb p (length s)) (λ e. rw e (lt-ltb p (length (take n s)) (omega (arith, length-take n s, ltb-true p (length s) e))))
       (λ e. rw e (le-ltb p (length (take n s)) (omega (arith, length-take n s, ltb-false p (length s) e))))
 
-  after-same : (d m : ℕ) (r : RowsRead) (b : ℕ) → Before (r .cursor) b → b + m * thread-most < n → after-rows (take n s) d m r ≡ after-rows s d m r
+  after-same : (x d m : ℕ) (r : RowsRead) (b : ℕ) → Before (r .cursor) b → b + m * thread-most < n → after-rows (take n s) x d m r ≡ after-rows s x d m r
   unfolding after-rows ended
-  after-same d m r b h k =
-      let t = threads-near d (r .cursor) b m h in
-      rw (threads-same d (r .cursor) b m h (omega arith), more-same (threads-from s d (r .cursor) m .cursor .next) (omega (arith, t .next)))
+  after-same x d m r b h k =
+      let t = threads-near x d (r .cursor) b m h in
+      rw (threads-same x d (r .cursor) b m h (omega arith), more-same (threads-from s x d (r .cursor) m .cursor .next) (omega (arith, t .next)))
 
   -- version, domains and count
   version-near : Before (version-from s) 3
   unfolding version-from
-  version-near = ranged-near (good 0 0 0) (range 1 2) 4 0 (record { start = omega arith; next = omega arith })
+  version-near = ranged-near (good 0 0 0) versions 4 0 (record { start = omega arith; next = omega arith })
 
   domains-near : Before (domains-from s) 6
   unfolding domains-from
@@ -208,7 +210,7 @@ module _ (n : ℕ) (s : List ℕ) where
 
   version-same : front ≤ n → version-from (take n s) ≡ version-from s
   unfolding version-from
-  version-same h = ranged-same (good 0 0 0) (range 1 2) 4 0 (record { start = omega arith; next = omega arith }) (omega arith)
+  version-same h = ranged-same (good 0 0 0) versions 4 0 (record { start = omega arith; next = omega arith }) (omega arith)
 
   domains-same : front ≤ n → domains-from (take n s) ≡ domains-from s
   unfolding domains-from
@@ -230,9 +232,10 @@ module _ (n : ℕ) (s : List ℕ) where
   pub reading-front : front ≤ n → reading (take n s) ≡ reading s
   unfolding reading
   reading-front h =
+      let x = version-from s .value in
       let d = domains-from s .value in
       let few = domains-few in
       let many = count-few in
-      let near = rows-near d (count-from s) 9 d count-near in
-      rw (count-same h, domains-same h, rows-same d (count-from s) 9 d count-near (omega arith))
-      (after-same d (count-from s .value) (rows-from s d (count-from s) d) (9 + d * 3) near (omega arith))
+      let near = rows-near x d (count-from s) 9 d count-near in
+      rw (count-same h, domains-same h, version-same h, rows-same x d (count-from s) 9 d count-near (omega arith))
+      (after-same x d (count-from s .value) (rows-from s d (count-from s) d) (9 + d * 3) near (omega arith))

@@ -78,14 +78,14 @@ module _ (s : List ℕ) where
   stopped-rows d c zero h = h
   stopped-rows d c (suc i) h = stopped-row d i _ (stopped-rows d c i h)
 
-  pub stopped-field : (d : ℕ) (ths : List Thread) (i : ℕ) (vs : List ℕ) (k : ℕ) (c : Cursor) → Stopped s c → Stopped s (field-from s d ths i vs k c)
+  pub stopped-field : (x d : ℕ) (ths : List Thread) (i : ℕ) (vs : List ℕ) (k : ℕ) (c : Cursor) → Stopped s c → Stopped s (field-from s x d ths i vs k c)
   unfolding field-from
-  stopped-field d ths i vs k c h = stopped-judged _ _ 9 (stopped-ranged c _ 8 h)
+  stopped-field x d ths i vs k c h = stopped-judged _ _ 9 (stopped-ranged c _ 8 h)
 
-  pub stopped-fields : (d : ℕ) (ths : List Thread) (i : ℕ) (c : Cursor) (k : ℕ) → Stopped s c → Stopped s (fields-from s d ths i c k .cursor)
+  pub stopped-fields : (x d : ℕ) (ths : List Thread) (i : ℕ) (c : Cursor) (k : ℕ) → Stopped s c → Stopped s (fields-from s x d ths i c k .cursor)
   unfolding fields-from
-  stopped-fields d ths i c zero h = h
-  stopped-fields d ths i c (suc k) h = stopped-field d ths i _ k _ (stopped-fields d ths i c k h)
+  stopped-fields x d ths i c zero h = h
+  stopped-fields x d ths i c (suc k) h = stopped-field x d ths i _ k _ (stopped-fields x d ths i c k h)
 
   -- What is objected to the number after vs is judged so.
   pub objected-by : {vs : List ℕ} {x : ℕ → ℕ} {c : Cursor} (o : Told) → Tested s vs x c → objection vs (c .value) ≡ o → 0 < o .number
@@ -140,21 +140,21 @@ module _ (s : List ℕ) where
       ⊎-elim (λ t. test-step ok why h (retested e t)) (λ t. inr (stopped-judged _ _ why t)) (number-step g w)
 
   -- The end of a reading: what is left of the bytes, if no number is wanted.
-  pub ended-judged : (vs : List ℕ) (d n : ℕ) (rows : List ℕ) (t : ThreadsRead) → wanted vs ≡ false → Good s vs (t .cursor)
-      → Judgment s (ended s d n rows t .told)
+  pub ended-judged : (vs : List ℕ) (x d n : ℕ) (rows : List ℕ) (t : ThreadsRead) → wanted vs ≡ false → Good s vs (t .cursor)
+      → Judgment s (ended s x d n rows t .told)
   unfolding ended pick
-  ended-judged vs d n rows t w g =
+  ended-judged vs x d n rows t w g =
       rw (eq-eqb (t .cursor .refusal) 0 (g .well), g .stands) (by-test (ltb (place vs) (length s))
       (λ l. rw l (extra vs (g .before) w (ltb-true _ _ l)))
       (λ l. rw l (all-read vs (g .before) w (omega (arith, ltb-false (place vs) (length s) l, sym (length-take (place vs) s) ∙ ap length (g .before .stands))))))
 
-  pub stopped-ended : (d n : ℕ) (rows : List ℕ) (t : ThreadsRead) → Stopped s (t .cursor) → Judgment s (ended s d n rows t .told)
+  pub stopped-ended : (x d n : ℕ) (rows : List ℕ) (t : ThreadsRead) → Stopped s (t .cursor) → Judgment s (ended s x d n rows t .told)
   unfolding ended pick
-  stopped-ended d n rows t h = rw (stopped-test h) (h .judgment)
+  stopped-ended x d n rows t h = rw (stopped-test h) (h .judgment)
 
-  pub stopped-after : (d n : ℕ) (r : RowsRead) → Stopped s (r .cursor) → Judgment s (after-rows s d n r .told)
+  pub stopped-after : (x d n : ℕ) (r : RowsRead) → Stopped s (r .cursor) → Judgment s (after-rows s x d n r .told)
   unfolding after-rows pick
-  stopped-after d n r h = rw (stopped-test h) (h .judgment)
+  stopped-after x d n r h = rw (stopped-test h) (h .judgment)
 
   -- A number that passed all its tests is one more.
   pub passed : Bytes s → {vs : List ℕ} {c : Cursor} → Tested s vs (λ v. 0) c → row-gap vs (c .value) ≡ answered [] → Good s (vs ++ (c .value ∷ [])) c

@@ -8,22 +8,22 @@ use mathlib.Core.Logic.{⊎-elim}
 use native.Mathlib.Omega.{arith}
 use native.Mathlib.Nat.{eq-or-lt-of-le}
 use lib.ListN.{length, getD, set, take, drop, length-set, drop-of-length-le}
-use lib.Seq.{getD-set-same, getD-set-other, take-suc-set, take-all}
+use lib.Seq.{getD-set-same, getD-set-other, take-suc-set}
 use lib.Dec.{eqb, ltb}
-use borrow.Author.Tests.{eqb-true, eqb-false, ltb-false, not-true}
+use borrow.Author.Tests.{eqb-true, eqb-false, ltb-true, ltb-false, not-true}
 use Rattle.basis.specs.Tests.{pick}
 use Rattle.basis.specs.Search.{Sought, nothing, found, listed}
 use Rattle.basis.proofs.TestLaws.{by-test, every-all}
 use Rattle.basis.proofs.ListLaws.{all-alike}
 use Rattle.flow.specs.Flow.{row-ok}
 use Rattle.flow.specs.Gap.{Triple, first-gap}
-use Rattle.table.specs.Threads.{field-count, none, fields, thread-of}
-use Rattle.table.specs.Ranges.{range, within, domain-counts, thread-counts, field-range}
+use Rattle.table.specs.Threads.{field-count, fields-in, none, fields, thread-of}
+use Rattle.table.specs.Ranges.{within, versions, domain-counts, thread-counts, field-range}
 use Rattle.table.specs.Legal.{field-ok, thread-ok, taken, Legal}
 use Rattle.table.specs.declared.Range.{Range}
 use Rattle.table.specs.declared.Table.{Table}
 use Rattle.table.specs.declared.Thread.{Thread}
-use Rattle.table.proofs.RangeLaws.{within-low, within-high, field-range-by, fields-back}
+use Rattle.table.proofs.RangeLaws.{field-range-by, fields-back, fields-in-most, fields-in-least, unwritten-ok}
 use Rattle.table.proofs.LegalLaws.{Parts, legal-of-parts}
 use Rattle.numeral.specs.declared.Number.{Number}
 use Rattle.numeral.specs.declared.Number.the-variants.{Value, Refused}
@@ -32,12 +32,12 @@ use Rattle.reader.specs.declared.RowsRead.{RowsRead}
 use Rattle.reader.specs.declared.FieldsRead.{FieldsRead}
 use Rattle.reader.specs.declared.ThreadsRead.{ThreadsRead}
 use Rattle.numeral.specs.Number.{number, number-at, encode, encode-all}
-use Rattle.writer.specs.Format.{row-numbers, thread-numbers, numbers, bytes}
+use Rattle.writer.specs.Format.{row-numbers, written-fields, thread-numbers, numbers, bytes}
 use Rattle.reader.specs.Reader.{good, took, number-from, judged, ranged, row-from, rows-from, free, field-from, fields-from, threads-from, Read, accepted, refused-at, whole-or-gap, ended, after-rows, version-from, domains-from, count-from, reading}
 use Rattle.numeral.specs.NumberRules.{Bytes}
 use Rattle.numeral.proofs.NumberLaws.{number-why, encode-all-append, encode-all-last}
 use Rattle.numeral.proofs.Runs.{Reads, number-reads, reads-nil, reads-join}
-use Rattle.reader.proofs.ReaderLaws.{ranged-le, length-fields}
+use Rattle.reader.proofs.ReaderLaws.{ranged-le, length-fields, field-unread}
 use Rattle.codec.proofs.FormatLaws.{rows-more, threads-more, rows-set, threads-set, taken-same}
 
 -- What was read where a part of the reader did not refuse.
@@ -52,16 +52,16 @@ pub record Rows-read (s : List ℕ) (d : ℕ) (c : Cursor) (i : ℕ) (r : RowsRe
   pub long : length (r .rows) ≡ 16
   pub unused : (j : ℕ) → i ≤ j → getD (r .rows) j 0 ≡ 0
 
-pub record Fields-read (s : List ℕ) (d : ℕ) (ths : List Thread) (i : ℕ) (c : Cursor) (k : ℕ) (r : FieldsRead) : Type 0 where
+pub record Fields-read (s : List ℕ) (x d : ℕ) (ths : List Thread) (i : ℕ) (c : Cursor) (k : ℕ) (r : FieldsRead) : Type 0 where
   pub was : c .refusal ≡ 0
   pub reads : Reads s (c .next) (r .cursor .next) (encode-all (take k (r .fields)))
-  pub ok : (j : ℕ) → j < k → field-ok d (r .fields) j ≡ true
+  pub ok : (j : ℕ) → j < k → field-ok x d (r .fields) j ≡ true
   pub unclaimed : (j : ℕ) → j < k → free ths i j (getD (r .fields) j 0) ≡ true
 
-pub record Threads-read (s : List ℕ) (d : ℕ) (c : Cursor) (i : ℕ) (r : ThreadsRead) : Type 0 where
+pub record Threads-read (s : List ℕ) (x d : ℕ) (c : Cursor) (i : ℕ) (r : ThreadsRead) : Type 0 where
   pub was : c .refusal ≡ 0
-  pub reads : Reads s (c .next) (r .cursor .next) (encode-all (thread-numbers (r .threads) i))
-  pub ok : (j : ℕ) → j < i → thread-ok d (getD (r .threads) j none) ≡ true
+  pub reads : Reads s (c .next) (r .cursor .next) (encode-all (thread-numbers x (r .threads) i))
+  pub ok : (j : ℕ) → j < i → thread-ok x d (getD (r .threads) j none) ≡ true
   pub untaken : (j : ℕ) → j < i → taken (r .threads) j (getD (r .threads) j none .priority) ≡ false
   pub long : length (r .threads) ≡ 32
   pub unused : (j : ℕ) → i ≤ j → getD (r .threads) j none ≡ none
@@ -128,14 +128,14 @@ module _ (s : List ℕ) (hs : Bytes s) where
   unfolding row-from
   row-sound d i c h = judged-number c (row-ok d i) 6 (omega arith) h
 
-  field-sound : (d : ℕ) (ths : List Thread) (i : ℕ) (vs : List ℕ) (k : ℕ) (c : Cursor) → field-from s d ths i vs k c .refusal ≡ 0 →
-      (Number-read s c (field-from s d ths i vs k c)) × (within (field-range d vs k) (field-from s d ths i vs k c .value) ≡ true)
-      × (free ths i k (field-from s d ths i vs k c .value) ≡ true)
+  field-sound : (x d : ℕ) (ths : List Thread) (i : ℕ) (vs : List ℕ) (k : ℕ) (c : Cursor) → field-from s x d ths i vs k c .refusal ≡ 0 →
+      (Number-read s c (field-from s x d ths i vs k c)) × (within (field-range x d vs k) (field-from s x d ths i vs k c .value) ≡ true)
+      × (free ths i k (field-from s x d ths i vs k c .value) ≡ true)
   unfolding field-from
-  field-sound d ths i vs k c h =
-      let r : Cursor = ranged s c (field-range d vs k) 8 in
+  field-sound x d ths i vs k c h =
+      let r : Cursor = ranged s c (field-range x d vs k) 8 in
       let j = judged-sound r (free ths i k (r .value)) 9 (omega arith) h in
-      let q = ranged-sound c (field-range d vs k) 8 (omega arith) (j .0) in
+      let q = ranged-sound c (field-range x d vs k) 8 (omega arith) (j .0) in
       rw (j .2) (q .0, q .1, j .1)
 
   pub rows-sound : (d : ℕ) (c : Cursor) (i : ℕ) → i ≤ 16 → rows-from s d c i .cursor .refusal ≡ 0 → Rows-read s d c i (rows-from s d c i)
@@ -160,46 +160,49 @@ module _ (s : List ℕ) (hs : Bytes s) where
         unused = λ j m. behind rows i j v 0 (r .unused) m;
       }
 
-  pub fields-sound : (d : ℕ) (ths : List Thread) (i : ℕ) (c : Cursor) (k : ℕ) → k ≤ field-count → fields-from s d ths i c k .cursor .refusal ≡ 0 →
-      Fields-read s d ths i c k (fields-from s d ths i c k)
+  pub fields-sound : (x d : ℕ) (ths : List Thread) (i : ℕ) (c : Cursor) (k : ℕ) → k ≤ field-count → fields-from s x d ths i c k .cursor .refusal ≡ 0 →
+      Fields-read s x d ths i c k (fields-from s x d ths i c k)
   unfolding fields-from field-ok encode-all
-  fields-sound d ths i c zero l h = record {
+  fields-sound x d ths i c zero l h = record {
     was = h;
     reads = reads-nil s (c .next);
     ok = λ j m. absurd (omega arith);
     unclaimed = λ j m. absurd (omega arith);
   }
-  fields-sound d ths i c (suc k) l h =
-      let vs : List ℕ = fields-from s d ths i c k .fields in
-      let v : ℕ = field-from s d ths i vs k (fields-from s d ths i c k .cursor) .value in
-      let f = field-sound d ths i vs k (fields-from s d ths i c k .cursor) h in
-      let r : Fields-read s d ths i c k (fields-from s d ths i c k) = fields-sound d ths i c k (omega arith) (f .0 .was) in
-      let long : length vs ≡ field-count = length-fields s d ths i c k in
-      let same : (j : ℕ) → j ≤ k → field-range d (set vs k v) j ≡ field-range d vs j
-      = λ j m. field-range-by d (set vs k v) vs j (λ n o. getD-set-other vs k n v 0 (λ z. omega arith)) in
+  fields-sound x d ths i c (suc k) l h =
+      let vs : List ℕ = fields-from s x d ths i c k .fields in
+      let v : ℕ = field-from s x d ths i vs k (fields-from s x d ths i c k .cursor) .value in
+      let f = field-sound x d ths i vs k (fields-from s x d ths i c k .cursor) h in
+      let r : Fields-read s x d ths i c k (fields-from s x d ths i c k) = fields-sound x d ths i c k (omega arith) (f .0 .was) in
+      let long : length vs ≡ field-count = length-fields s x d ths i c k in
+      let same : (j : ℕ) → j ≤ k → field-range x d (set vs k v) j ≡ field-range x d vs j
+      = λ j m. field-range-by x d (set vs k v) vs j (λ n o. getD-set-other vs k n v 0 (λ z. omega arith)) in
       record {
         was = r .was;
         reads = rw (take-suc-set vs k v (rw long l), encode-all-last (take k vs) v) (reads-join (r .reads) (f .0 .reads));
-        ok = λ j m. rw (same j (omega arith)) (stored vs k field-count j v 0 long l (λ j v. within (field-range d vs j) v ≡ true) (r .ok) (f .1) m);
+        ok = λ j m. rw (same j (omega arith)) (stored vs k field-count j v 0 long l (λ j v. within (field-range x d vs j) v ≡ true) (r .ok) (f .1) m);
         unclaimed = λ j m. stored vs k field-count j v 0 long l (λ j v. free ths i j v ≡ true) (r .unclaimed) (f .2) m;
       }
 
-  -- the fields make a thread in range, whose priority is not taken
-  pub thread-sound : (d : ℕ) (ths : List Thread) (i : ℕ) (c : Cursor) → fields-from s d ths i c field-count .cursor .refusal ≡ 0 →
-      (c .refusal ≡ 0) × (Reads s (c .next) (fields-from s d ths i c field-count .cursor .next) (encode-all (fields (thread-of (fields-from s d ths i c field-count .fields)))))
-      × (thread-ok d (thread-of (fields-from s d ths i c field-count .fields)) ≡ true)
-      × (taken ths i (thread-of (fields-from s d ths i c field-count .fields) .priority) ≡ false)
+  -- the fields make a thread in range, whose priority is not taken; a field that does not stand in the bytes is 0
+  pub thread-sound : (x d : ℕ) (ths : List Thread) (i : ℕ) (c : Cursor) → fields-from s x d ths i c (fields-in x) .cursor .refusal ≡ 0 →
+      (c .refusal ≡ 0) × (Reads s (c .next) (fields-from s x d ths i c (fields-in x) .cursor .next) (encode-all (written-fields x (thread-of (fields-from s x d ths i c (fields-in x) .fields)))))
+      × (thread-ok x d (thread-of (fields-from s x d ths i c (fields-in x) .fields)) ≡ true)
+      × (taken ths i (thread-of (fields-from s x d ths i c (fields-in x) .fields) .priority) ≡ false)
   unfolding thread-ok free
-  thread-sound d ths i c h =
-      let r : Fields-read s d ths i c field-count (fields-from s d ths i c field-count) = fields-sound d ths i c field-count (omega arith) h in
-      let vs : List ℕ = fields-from s d ths i c field-count .fields in
-      let long : length vs ≡ field-count = length-fields s d ths i c field-count in
-      let back : fields (thread-of vs) ≡ vs = fields-back vs long in
-      (r .was, rw back (rw (take-all field-count vs (omega (arith, long))) at (r .reads)), rw back (every-all (field-ok d vs) field-count (r .ok)), not-true _ (r .unclaimed 1 (omega arith)))
+  thread-sound x d ths i c h =
+      let w : ℕ = fields-in x in
+      let r : Fields-read s x d ths i c w (fields-from s x d ths i c w) = fields-sound x d ths i c w (fields-in-most x) h in
+      let vs : List ℕ = fields-from s x d ths i c w .fields in
+      let back : fields (thread-of vs) ≡ vs = fields-back vs (length-fields s x d ths i c w) in
+      let ok : (j : ℕ) → j < field-count → field-ok x d vs j ≡ true
+      = λ j m. by-test (ltb j w) (λ t. r .ok j (ltb-true j w t))
+      (λ t. let l : w ≤ j = ltb-false j w t in unwritten-ok x d vs j l m (field-unread s x d ths i c j w l)) in
+      (r .was, rw back (r .reads), rw back (every-all (field-ok x d vs) field-count ok), not-true _ (r .unclaimed 1 (omega (arith, fields-in-least x))))
 
-  pub threads-sound : (d : ℕ) (c : Cursor) (i : ℕ) → i ≤ 32 → threads-from s d c i .cursor .refusal ≡ 0 → Threads-read s d c i (threads-from s d c i)
+  pub threads-sound : (x d : ℕ) (c : Cursor) (i : ℕ) → i ≤ 32 → threads-from s x d c i .cursor .refusal ≡ 0 → Threads-read s x d c i (threads-from s x d c i)
   unfolding threads-from thread-numbers encode-all
-  threads-sound d c zero l h = record {
+  threads-sound x d c zero l h = record {
     was = h;
     reads = reads-nil s (c .next);
     ok = λ j m. absurd (omega arith);
@@ -207,37 +210,37 @@ module _ (s : List ℕ) (hs : Bytes s) where
     long = refl;
     unused = λ j m. all-alike 32 j none;
   }
-  threads-sound d c (suc i) l h =
-      let ths : List Thread = threads-from s d c i .threads in
-      let k = thread-sound d ths i (threads-from s d c i .cursor) h in
-      let r : Threads-read s d c i (threads-from s d c i) = threads-sound d c i (omega arith) (k .0) in
-      let th : Thread = thread-of (fields-from s d ths i (threads-from s d c i .cursor) field-count .fields) in
+  threads-sound x d c (suc i) l h =
+      let ths : List Thread = threads-from s x d c i .threads in
+      let k = thread-sound x d ths i (threads-from s x d c i .cursor) h in
+      let r : Threads-read s x d c i (threads-from s x d c i) = threads-sound x d c i (omega arith) (k .0) in
+      let th : Thread = thread-of (fields-from s x d ths i (threads-from s x d c i .cursor) (fields-in x) .fields) in
       let other : (j n : ℕ) → j ≤ i → n < j → getD (set ths i th) n none ≡ getD ths n none = λ j n m o. getD-set-other ths i n th none (λ z. omega arith) in
       let free-at : (j : ℕ) → Thread → Type 0 = λ j x. taken ths j (x .priority) ≡ false in
       record {
         was = r .was;
-        reads = rw (threads-more (set ths i th) i, threads-set ths i i th (omega arith), getD-set-same ths i th none (rw (r .long) l)) (reads-join (r .reads) (k .1));
-        ok = λ j m. stored ths i 32 j th none (r .long) l (λ j x. thread-ok d x ≡ true) (r .ok) (k .2) m;
+        reads = rw (threads-more x (set ths i th) i, threads-set x ths i i th (omega arith), getD-set-same ths i th none (rw (r .long) l)) (reads-join (r .reads) (k .1));
+        ok = λ j m. stored ths i 32 j th none (r .long) l (λ j th. thread-ok x d th ≡ true) (r .ok) (k .2) m;
         untaken = λ j m. taken-same (set ths i th) ths j _ (λ n o. other j n (omega arith) o) ∙ stored ths i 32 j th none (r .long) l free-at (r .untaken) (k .3) m;
         long = length-set ths i th ∙ r .long;
         unused = λ j m. behind ths i j th none (r .unused) m;
       }
 
-  ended-back : (d n : ℕ) (rows : List ℕ) (r : ThreadsRead) (t : Table) → ended s d n rows r ≡ accepted t →
-      (r .cursor .refusal ≡ 0) × (length s ≤ r .cursor .next) × (record { domains = d; count = n; rows = rows; threads = r .threads } ≡ t)
+  ended-back : (x d n : ℕ) (rows : List ℕ) (r : ThreadsRead) (t : Table) → ended s x d n rows r ≡ accepted t →
+      (r .cursor .refusal ≡ 0) × (length s ≤ r .cursor .next) × (record { version = x; domains = d; count = n; rows = rows; threads = r .threads } ≡ t)
   unfolding ended pick
-  ended-back d n rows r t h =
+  ended-back x d n rows r t h =
       by-test (eqb (r .cursor .refusal) 0)
       (λ e. by-test (ltb (r .cursor .next) (length s)) (λ f. not-accepted (rw (e, f) at h))
       (λ f. (eqb-true (r .cursor .refusal) 0 e, ltb-false (r .cursor .next) (length s) f, ap (λ (x : Read). x .table) (rw (e, f) at h))))
       (λ e. not-accepted (rw e at h))
 
-  after-rows-back : (d n : ℕ) (r : RowsRead) (t : Table) → after-rows s d n r ≡ accepted t →
-      (r .cursor .refusal ≡ 0) × (first-gap (r .rows) d ≡ nothing) × (ended s d n (r .rows) (threads-from s d (r .cursor) n) ≡ accepted t)
+  after-rows-back : (x d n : ℕ) (r : RowsRead) (t : Table) → after-rows s x d n r ≡ accepted t →
+      (r .cursor .refusal ≡ 0) × (first-gap (r .rows) d ≡ nothing) × (ended s x d n (r .rows) (threads-from s x d (r .cursor) n) ≡ accepted t)
   unfolding after-rows pick
-  after-rows-back d n r t h =
+  after-rows-back x d n r t h =
       by-test (eqb (r .cursor .refusal) 0)
-      (λ e. let g = whole-back (r .cursor .start) (first-gap (r .rows) d) (ended s d n (r .rows) (threads-from s d (r .cursor) n)) t (rw e at h) in
+      (λ e. let g = whole-back (r .cursor .start) (first-gap (r .rows) d) (ended s x d n (r .rows) (threads-from s x d (r .cursor) n)) t (rw e at h) in
       (eqb-true (r .cursor .refusal) 0 e, g .0, g .1))
       (λ e. not-accepted (rw e at h))
 
@@ -248,24 +251,24 @@ module _ (s : List ℕ) (hs : Bytes s) where
   pub sound : (t : Table) → reading s ≡ accepted t → (s ≡ bytes t) × Legal t
   unfolding reading version-from domains-from count-from bytes numbers encode-all
   sound t h =
+      let x : ℕ = version-from s .value in
       let d : ℕ = domains-from s .value in
       let n : ℕ = count-from s .value in
       let r : RowsRead = rows-from s d (count-from s) d in
-      let a = after-rows-back d n r t h in
-      let b = ended-back d n (r .rows) (threads-from s d (r .cursor) n) t (a .2) in
+      let a = after-rows-back x d n r t h in
+      let b = ended-back x d n (r .rows) (threads-from s x d (r .cursor) n) t (a .2) in
       let ro = rows-sound d (count-from s) d (ranged-le s (version-from s) domain-counts 5) (a .0) in
       let f3 = ranged-sound (domains-from s) thread-counts 5 (omega arith) (ro .was) in
       let f2 = ranged-sound (version-from s) domain-counts 5 (omega arith) (f3 .0 .was) in
-      let f1 = ranged-sound (good 0 0 0) (range 1 2) 4 (omega arith) (f2 .0 .was) in
-      let to = threads-sound d (r .cursor) n (ranged-le s (domains-from s) thread-counts 5) (b .0) in
-      let v1 : version-from s .value ≡ 1 = omega (arith, within-low (range 1 2) (version-from s .value) (f1 .1), within-high (range 1 2) (version-from s .value) (f1 .1)) in
-      let f0 : Reads s 0 (version-from s .next) (encode 1) = rw v1 at (f1 .0 .reads) in
-      let rd = reads-join f0 (reads-join (f2 .0 .reads) (reads-join (f3 .0 .reads) (reads-join (ro .reads) (to .reads)))) in
-      let all : s ≡ encode 1 ++ (encode d ++ (encode n ++ (encode-all (row-numbers (r .rows) d) ++ encode-all (thread-numbers (threads-from s d (r .cursor) n .threads) n))))
+      let f1 = ranged-sound (good 0 0 0) versions 4 (omega arith) (f2 .0 .was) in
+      let to = threads-sound x d (r .cursor) n (ranged-le s (domains-from s) thread-counts 5) (b .0) in
+      let rd = reads-join (f1 .0 .reads) (reads-join (f2 .0 .reads) (reads-join (f3 .0 .reads) (reads-join (ro .reads) (to .reads)))) in
+      let all : s ≡ encode x ++ (encode d ++ (encode n ++ (encode-all (row-numbers (r .rows) d) ++ encode-all (thread-numbers x (threads-from s x d (r .cursor) n .threads) n))))
       = rd .stands ∙ rw (drop-of-length-le s (b .1)) (append-nil _) in
-      said (b .2) (rw (encode-all-append (row-numbers (r .rows) d) (thread-numbers (threads-from s d (r .cursor) n .threads) n)) all)
+      said (b .2) (rw (encode-all-append (row-numbers (r .rows) d) (thread-numbers x (threads-from s x d (r .cursor) n .threads) n)) all)
       (record {
         sized = record { rows = ro .long; threads = to .long };
+        version = f1 .1;
         domains = f2 .1;
         count = f3 .1;
         row = ro .row;

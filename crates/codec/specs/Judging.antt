@@ -6,31 +6,32 @@ use mathlib.Core.List.{List, [], _∷_, _++_}
 use mathlib.Core.Bool.{Bool, true, false}
 use lib.ListN.{length, getD, take, drop}
 use lib.Dec.{eqb, ltb}
-use Rattle.basis.specs.Tests.{pick, and, some}
+use Rattle.basis.specs.Tests.{pick, and, or, some}
 use Rattle.basis.specs.Told.{Told, answered, refused}
 use Rattle.flow.specs.Flow.{row-ok}
 use Rattle.flow.specs.Gap.{first-gap, gap-told}
-use Rattle.table.specs.Threads.{field-count}
+use Rattle.table.specs.Threads.{fields-in}
 use Rattle.table.specs.Ranges.{within, domain-counts, thread-counts, field-range}
 use Rattle.numeral.specs.Number.{encode-all}
 use Rattle.numeral.specs.NumberRules.{No-number, Number-value}
 
--- Why v is refused as the next field after the fields fs of the threads so far, in a table of d domains (0: it passes):
--- thread i is being read, k is its next field, and field 1 is the priority.
-unfoldable pub field-fault : ℕ → List ℕ → ℕ → ℕ
-field-fault d fs v =
-    let i = length fs / field-count in
-    let k = length fs % field-count in
-    pick (within (field-range d (drop (field-count * i) fs) k) v)
-    (pick (and (eqb k 1) (some i (λ j. eqb (getD fs (field-count * j + 1) 0) v))) 9 0)
+-- Why v is refused as the next field after the fields fs of the threads so far, in a table of this version and d domains (0: it
+-- passes): thread i is being read, of w fields, k is its next one, and field 1 is the priority.
+unfoldable pub field-fault : ℕ → ℕ → List ℕ → ℕ → ℕ
+field-fault version d fs v =
+    let w = fields-in version in
+    let i = length fs / w in
+    let k = length fs % w in
+    pick (within (field-range version d (drop (w * i) fs) k) v)
+    (pick (and (eqb k 1) (some i (λ j. eqb (getD fs (w * j + 1) 0) v))) 9 0)
     8
 
 -- Why v is refused as the next number after the numbers vs (0: it passes).
 unfoldable pub fault : List ℕ → ℕ → ℕ
-fault [] v = pick (eqb v 1) 0 4
+fault [] v = pick (or (eqb v 1) (eqb v 2)) 0 4
 fault (version ∷ []) v = pick (within domain-counts v) 0 5
 fault (version ∷ d ∷ []) v = pick (within thread-counts v) 0 5
-fault (version ∷ d ∷ n ∷ vs) v = pick (ltb (length vs) d) (pick (row-ok d (length vs) v) 0 6) (field-fault d (drop d vs) v)
+fault (version ∷ d ∷ n ∷ vs) v = pick (ltb (length vs) d) (pick (row-ok d (length vs) v) 0 6) (field-fault version d (drop d vs) v)
 
 -- The test that follows the last row: the first gap among the rows, where v is the last row after the numbers vs.
 unfoldable pub row-gap : List ℕ → ℕ → Told
@@ -43,12 +44,12 @@ row-gap (version ∷ d ∷ n ∷ vs) v = pick (eqb (length vs + 1) d) (gap-told 
 unfoldable pub objection : List ℕ → ℕ → Told
 objection vs v = pick (eqb (fault vs v) 0) (row-gap vs v) (refused (fault vs v))
 
--- Another number is wanted after vs: three, one for each domain, the fields of each thread.
+-- Another number is wanted after vs: three, one for each domain, and for each thread the fields of the version.
 unfoldable pub wanted : List ℕ → Bool
 wanted [] = true
 wanted (version ∷ []) = true
 wanted (version ∷ d ∷ []) = true
-wanted (version ∷ d ∷ n ∷ vs) = ltb (length vs) (d + field-count * n)
+wanted (version ∷ d ∷ n ∷ vs) = ltb (length vs) (d + fields-in version * n)
 
 -- The bytes s start with the numbers vs, each wanted where it stands and not objected to.
 pub record Before (s vs : List ℕ) : Type 0 where

@@ -1,5 +1,4 @@
-// Random states that fit a table, and random step bytes.
-use dice::any8;
+// Random states that fit a table.
 use dice::below;
 use dice::below8;
 use dice::below32;
@@ -56,6 +55,21 @@ fn some_of(seed: u64, k: u32, all: u16) -> u16 {
     }
 }
 
+// Just released, at the deadline, ready for an event, a step before one of them, or anything between; 0 for a periodic thread.
+fn since(seed: u64, f: Thread) -> u16 {
+    if f.kind == 0 {
+        return 0;
+    }
+    match below(seed, 16, 8) {
+        0 => 0,
+        1 => f.deadline,
+        2 => wrapping_sub_u16(f.deadline, 1),
+        3 | 4 => f.period,
+        5 => wrapping_sub_u16(f.period, 1),
+        _ => between(seed, 17, 0, f.period),
+    }
+}
+
 fn progress(seed: u64, f: Thread, clock: u32) -> Progress {
     let ran = below32(seed, 8, wrapping_add_u32(clock, 1));
     Progress {
@@ -63,42 +77,19 @@ fn progress(seed: u64, f: Thread, clock: u32) -> Progress {
         execution: some_of(seed, 15, wrapping_sub_u16(f.budget, f.blocking)),
         finished: seldom(seed, 9, 4),
         ran: if seldom(seed, 10, 4) { clock } else { ran },
+        since: since(seed, f),
     }
 }
 
 pub fn state(seed: u64, t: Table) -> State {
     let clock = clock(seed, t);
     let count = t.count;
-    let mut s = scheduler::fresh();
+    let start = scheduler::fresh(t);
+    let mut s = start.state;
     s.clock = clock;
     for i in 0..count {
         let f = t.threads[i as usize % 32];
         s.threads[i as usize % 32] = progress(part(seed, i as u32), f, clock);
     }
     s
-}
-
-// In a mood of 0 few threads run, in one of 7 nearly all.
-fn byte(seed: u64, mood: u16) -> u8 {
-    if below(seed, 11, 8) < mood {
-        return 1;
-    }
-    match below(seed, 12, 10) {
-        0 => 1,
-        1 => 2,
-        2 => 3,
-        3 => 255,
-        4 => any8(seed, 13),
-        _ => 0,
-    }
-}
-
-// More bytes than any table asks for.
-pub fn bytes(seed: u64) -> [u8; 40] {
-    let mood = below(seed, 14, 8);
-    let mut bytes = [0u8; 40];
-    for i in 0..40u32 {
-        bytes[i as usize] = byte(part(seed, i), mood);
-    }
-    bytes
 }

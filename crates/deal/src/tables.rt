@@ -1,4 +1,4 @@
-// Random legal tables.
+// Random legal tables of both versions.
 use dice::any;
 use dice::any8;
 use dice::below;
@@ -110,40 +110,44 @@ fn priority(seed: u64, i: u8) -> u8 {
     std::num::wrapping_add_u8((place % 256) as u8, any8(seed, 9)) ^ any8(seed, 10)
 }
 
-// Thread i, from the table's seed and its own.
-fn thread(seed: u64, domains: u8, i: u8) -> Thread {
+// Thread i, from the table's seed and its own. In version 2 one of three is released by events, and has no offset.
+fn thread(seed: u64, version: u8, domains: u8, i: u8) -> Thread {
     let own = part(seed, i as u32 + 1000);
     let light = seldom(seed, 11, 4);
     let period = period(seed, own, light);
     let budget = budget(seed, own, period, light);
     let latest = std::num::wrapping_sub_u16(period, 1);
+    let event = (version == 2) & seldom(own, 16, 3);
     Thread {
         domain: below8(own, 12, domains),
         priority: priority(seed, i),
         period,
-        offset: some(own, 13, 0, latest),
+        offset: if event { 0 } else { some(own, 13, 0, latest) },
         budget,
         deadline: some(own, 14, if light { period } else { budget }, period),
         blocking: some(own, 15, 0, budget),
+        kind: if event { 1 } else { 0 },
     }
 }
 
-fn threads(seed: u64, domains: u8, count: u8) -> [Thread; 32] {
+fn threads(seed: u64, version: u8, domains: u8, count: u8) -> [Thread; 32] {
     let none = table::no_thread();
     let mut threads = [none; 32];
     for i in 0..count {
-        threads[i as usize % 32] = thread(seed, domains, i);
+        threads[i as usize % 32] = thread(seed, version, domains, i);
     }
     threads
 }
 
 pub fn table(seed: u64) -> Table {
+    let version = if seldom(seed, 5, 2) { 1 } else { 2 };
     let domains = size(seed, 1, 3, 16);
     let count = size(seed, 2, 4, 32);
     Table {
+        version,
         domains,
         count,
         rows: rows(part(seed, 3), domains),
-        threads: threads(part(seed, 4), domains, count),
+        threads: threads(part(seed, 4), version, domains, count),
     }
 }

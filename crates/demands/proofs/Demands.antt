@@ -22,15 +22,18 @@ use Rattle.codec.proofs.JudgingLaws.{judged-exactly}
 use Rattle.state.specs.State.{no-progress}
 use Rattle.state.specs.declared.Progress.{Progress}
 use Rattle.state.specs.declared.State.{State}
-use Rattle.state.proofs.FitLaws.{fits-sound, fits-complete}
-use Rattle.state.proofs.ReleaseLaws.{releases-exactly, release-at, at-release, before-offset, other-phases, past-deadline}
+use Rattle.state.proofs.FitLaws.{fits-sound, fits-complete, longest-event, longest-periodic}
+use Rattle.state.proofs.StartLaws.{fresh-refused, fresh-answered, fresh-zero, fresh-legal, fresh-clock, fresh-event, fresh-periodic}
+use Rattle.state.proofs.TickLaws.{tick-leaves}
+use Rattle.state.proofs.ReleaseLaws.{releases-exactly, release-at, clock-released, event-released, at-release, before-offset, other-phases, past-deadline, at-event, early-event, before-deadline, after-deadline}
 use Rattle.walk.proofs.StepLaws.{step-clock, chosen-rested}
 use Rattle.walk.proofs.ReachedLaws.{runs-exactly, two-finishes, strange-waits}
 use Rattle.walk.proofs.CountLaws.{rest-stays, step-counts, step-runs}
 use Rattle.walk.proofs.RunLaws.{runs-most, runs-rested}
 use Rattle.walk.proofs.PaidLaws.{pays-once, payments-most}
+use Rattle.walk.proofs.ReleasedLaws.{releases-apart, releases-most-in, since-grows, since-stops, since-periodic}
 use Rattle.walk.proofs.ChoiceLaws.{below-chosen, idle-only, chosen-first, chosen-says, reached-pay-one, reached-marks}
-use Rattle.scheduler.proofs.RefusalLaws.{number-exactly, refused-keeps, same-refusal, taken-steps}
+use Rattle.scheduler.proofs.RefusalLaws.{number-exactly, refused-keeps, same-refusal, taken-steps, mask-exactly}
 use Rattle.scheduler.proofs.CallLaws.{calls-steps}
 use Rattle.sight.specs.Shown.{showing-state, threads-shown}
 use Rattle.sight.proofs.SightLaws.{visible-exactly, seen-at, hidden-at}
@@ -65,8 +68,14 @@ demand-1-holds = record {
   bytes-judged = judged-exactly;
   refused-table = refused-zero;
   step-numbered = number-exactly;
+  mask-exactly = mask-exactly;
   legal-exactly = λ t z. (legal-sound t z, legal-complete t);
   fits-exactly = λ t s few long. (fits-sound t s few long, fits-complete t s);
+  since-event = longest-event;
+  since-periodic = longest-periodic;
+  fresh-refused = fresh-refused;
+  fresh-answered = fresh-answered;
+  fresh-zero = fresh-zero;
   marks-refused = marks-refused;
   marks-answered = marks-answered;
   writer-numbered = write-number-exactly;
@@ -92,13 +101,23 @@ demand-2-holds = record {
   marks-name = marks-name;
   marked-exactly = λ t i. (mark-sound t i, mark-complete t i);
   set-exactly = set-exactly;
-  call-steps = λ t ok bs e s f l. taken-steps t bs s ok (fits-complete t s f) e l;
+  call-steps = λ t ok x e m s f l. taken-steps t x s ok (fits-complete t s f) e m l;
   run-steps = calls-steps;
+  fresh-legal = fresh-legal;
+  fresh-clock = fresh-clock;
+  fresh-periodic = fresh-periodic;
+  fresh-event = fresh-event;
   release-each = release-at;
   at-release = at-release;
   before-offset = before-offset;
   other-phases = other-phases;
   past-deadline = past-deadline;
+  clock-released = clock-released;
+  event-released = event-released;
+  at-event = at-event;
+  early-event = early-event;
+  before-deadline = before-deadline;
+  after-deadline = after-deadline;
   runs-exactly = runs-exactly;
   two-finishes = two-finishes;
   strange-waits = strange-waits;
@@ -111,6 +130,12 @@ demand-2-holds = record {
   pays-once = pays-once;
   reached-marks = reached-marks;
   releases-exactly = releases-exactly;
+  releases-apart = releases-apart;
+  releases-most = releases-most-in;
+  since-grows = since-grows;
+  since-stops = since-stops;
+  since-periodic = since-periodic;
+  tick-leaves = tick-leaves;
   payments-most = payments-most;
   rest-stays = rest-stays;
   step-counts = step-counts;

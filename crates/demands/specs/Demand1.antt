@@ -1,27 +1,29 @@
 -- Demand 1, whole: damaged tables, stale states and short step lists are all taken; every call answers, or refuses with the one number
 -- that the rules give; a refusal hands the state back as it came and writes nothing; no thread's byte brings a refusal about. That each
 -- call ends and never traps is what the proof of each operation says, none of which has a `requires`.
-use Prim.Native.Nat.{ℕ, _≤_, _<_}
+use Prim.Native.Nat.{ℕ, _^_, _≤_, _<_}
 use mathlib.Core.Path.{_≡_}
 use mathlib.Core.List.{List, []}
-use mathlib.Core.Logic.{_↔_}
+use mathlib.Core.Logic.{_≢_, _↔_}
 use mathlib.Core.Bool.{true, false}
 use lib.ListN.{length, replicate}
 use Rattle.basis.specs.Told.{Told, answered, refused}
 use Rattle.table.specs.Legal.{legal, Sized, Legal}
 use Rattle.table.specs.Mark.{marking}
 use Rattle.table.specs.declared.Table.{Table}
+use Rattle.table.specs.declared.Thread.{Thread}
 use Rattle.numeral.specs.NumberRules.{Bytes}
 use Rattle.reader.specs.Reader.{no-table, reading}
 use Rattle.writer.specs.Writer.{writing, written}
 use Rattle.writer.specs.Numbered.{Write-numbered}
 use Rattle.codec.specs.Judging.{Judgment}
-use Rattle.state.specs.State.{no-progress, fits, Fits}
+use Rattle.state.specs.State.{no-progress, longest-since, fits, Fits, no-state, starting, fresh-given}
 use Rattle.state.specs.declared.Progress.{Progress}
 use Rattle.state.specs.declared.State.{State}
 use Rattle.walk.specs.declared.Answer.{Answer}
-use Rattle.scheduler.specs.Taken.{taken}
-use Rattle.scheduler.specs.Numbered.{Numbered}
+use Rattle.walk.specs.Step.{Input}
+use Rattle.scheduler.specs.Taken.{taken, mask-ok}
+use Rattle.scheduler.specs.Numbered.{Only-events, Numbered}
 use Rattle.sight.specs.Shown.{showing, showing-state, threads-shown}
 use Rattle.sight.specs.Numbered.{View-numbered, State-numbered}
 use Rattle.host.specs.Host.{refusal, thread-mark, thread-bound, Refuses}
@@ -34,11 +36,17 @@ pub record Demand-1 : Type 0 where
   pub bytes-judged : (s : List ℕ) → Bytes s → (o : Told) → (reading s .told ≡ o) ↔ Judgment s o
   pub refused-table : (s : List ℕ) → 0 < reading s .told .number → reading s .table ≡ no-table
   -- Damaged tables handed in, stale states, short step lists: a step's number is given exactly when its row says.
-  pub step-numbered : (t : Table) (bs : List ℕ) (s : State) (n : ℕ) → (taken t bs s .told .number ≡ n) ↔ Numbered t bs s n
+  pub step-numbered : (t : Table) (x : Input) (s : State) (n : ℕ) → (taken t x s .told .number ≡ n) ↔ Numbered t x s n
+  pub mask-exactly : (t : Table) (mask : ℕ) → mask < 2 ^ 32 → (mask-ok t mask ≡ true) ↔ Only-events t mask
   -- What the rows call legal and fitting is what document 01 calls so.
   pub legal-exactly : (t : Table) → Sized t → (legal t ≡ true) ↔ Legal t
   pub fits-exactly : (t : Table) (s : State) → t .count ≤ 32 → length (s .threads) ≡ 32 → (fits t s ≡ true) ↔ Fits t s
-  -- So is each number of the other operations.
+  pub since-event : (th : Thread) → th .kind ≡ 1 → longest-since th ≡ th .period
+  pub since-periodic : (th : Thread) → th .kind ≢ 1 → longest-since th ≡ 0
+  -- So is each number of the other operations; `fresh` of a table is refused with 11, and is then zero.
+  pub fresh-refused : (t : Table) → (starting t ≡ refused 11) ↔ (legal t ≡ false)
+  pub fresh-answered : (t : Table) → (starting t ≡ answered []) ↔ (legal t ≡ true)
+  pub fresh-zero : (t : Table) → legal t ≡ false → fresh-given t ≡ no-state
   pub marks-refused : (t : Table) → (marking t ≡ refused 11) ↔ (legal t ≡ false)
   pub marks-answered : (t : Table) → (marking t ≡ answered []) ↔ (legal t ≡ true)
   pub writer-numbered : (b : List ℕ) (at : ℕ) (t : Table) (n : ℕ) → (writing b at t .number ≡ n) ↔ Write-numbered b at t n
@@ -50,9 +58,10 @@ pub record Demand-1 : Type 0 where
   pub host-mark-refused : (s : List ℕ) (i n : ℕ) → (thread-mark s i ≡ refusal n) ↔ Refuses s i n
   pub host-bound-refused : (s : List ℕ) → Bytes s → (i n : ℕ) → (thread-bound s i ≡ refusal n) ↔ Refuses s i n
   -- A refused step hands the state back as it came.
-  pub state-back : (t : Table) (bs : List ℕ) (s : State) → 0 < taken t bs s .told .number → taken t bs s .state ≡ s
+  pub state-back : (t : Table) (x : Input) (s : State) → 0 < taken t x s .told .number → taken t x s .state ≡ s
   -- A refused writer leaves the lent buffer as it was, and a refused domain is shown zeros.
   pub nothing-written : (b : List ℕ) (at : ℕ) (t : Table) → 0 < writing b at t .number → written b at t ≡ b
   pub zeros-shown : (t : Table) (s : State) (d : ℕ) → 0 < showing-state t s d .number → threads-shown t s d ≡ replicate 32 no-progress
-  -- No thread's step byte brings a refusal about: with as many bytes, whatever they are, the number is the same.
-  pub no-byte-refuses : (t : Table) (bs cs : List ℕ) (s : State) → length bs ≡ length cs → taken t bs s .told .number ≡ taken t cs s .told .number
+  -- No thread's step byte brings a refusal about: with the same mask and as many bytes, whatever they are, the number is the same.
+  pub no-byte-refuses : (t : Table) (x y : Input) (s : State) → x .mask ≡ y .mask → length (x .bytes) ≡ length (y .bytes)
+      → taken t x s .told .number ≡ taken t y s .told .number

@@ -5,12 +5,14 @@ use Prim.Native.Nat.{ℕ, _+_, _-_, _%_, _≤_, _<_}
 use mathlib.Core.Path.{_≡_}
 use mathlib.Core.List.{List, [], _∷_, map}
 use mathlib.Core.Logic.{_≢_, _↔_}
-use mathlib.Core.Bool.{true, false}
+use mathlib.Core.Bool.{Bool, true, false}
 use lib.ListN.{length, getD, take, drop}
 use lib.Dec.{eqb}
 use Rattle.basis.specs.Tests.{or}
 use Rattle.basis.specs.Search.{found, nothing}
 use Rattle.basis.specs.Told.{answered}
+use Rattle.basis.specs.Ceil.{ceil}
+use Rattle.basis.specs.Spaced.{happened}
 use Rattle.table.specs.Threads.{thread}
 use Rattle.table.specs.Legal.{legal, Sized, Legal}
 use Rattle.table.specs.Mark.{Leaks, Protects, mark, marked, marks-of, marks-given, is-set}
@@ -21,16 +23,17 @@ use Rattle.numeral.specs.NumberRules.{Bytes}
 use Rattle.reader.specs.Reader.{accepted, reading}
 use Rattle.writer.specs.Format.{bytes}
 use Rattle.writer.specs.Writer.{overlaid, writing, written}
-use Rattle.state.specs.State.{with-rest, with-execution, progress, last-clock, Fits}
-use Rattle.state.specs.Release.{released, release, releases}
-use Rattle.state.specs.Methods.{finish}
+use Rattle.state.specs.State.{no-progress, with-since, progress, fresh, fresh-given, last-clock, Fits}
+use Rattle.state.specs.Release.{has-event, cut, by-clock, by-event, released, release, releases, Release-due}
+use Rattle.state.specs.Methods.{finish, tick}
 use Rattle.state.specs.declared.Progress.{Progress}
 use Rattle.state.specs.declared.State.{State}
 use Rattle.walk.specs.Walk.{heard, runs, visit}
-use Rattle.walk.specs.Step.{step, Rested, Names, Says, ran-by}
-use Rattle.walk.specs.Paid.{pays, payments, runs-of}
+use Rattle.walk.specs.Step.{Input, step, Rested, Names, Says, ran-by}
+use Rattle.walk.specs.Paid.{pays, payments, runs-of, Unreleased}
+use Rattle.walk.specs.Releases.{releases-in}
 use Rattle.walk.specs.declared.Answer.the-variants.{Ran, Idle}
-use Rattle.scheduler.specs.Taken.{took, taken}
+use Rattle.scheduler.specs.Taken.{took, mask-ok, taken}
 use Rattle.scheduler.specs.Calls.{Whole-steps, calls, steps}
 use Rattle.admission.specs.Bounded.{bound, Is-bound, No-bound}
 use Rattle.admission.specs.Demand.{demand, Sum-of, Demands}
@@ -53,69 +56,103 @@ pub record Demand-2 : Type 0 where
   pub marked-exactly : (t : Table) (i : ℕ) → (marked t i ≡ true) ↔ Leaks t i
   pub set-exactly : (t : Table) (i : ℕ) → i < t .count → is-set (marks-of t) i ≡ marked t i
   -- From every fitting state a call that nothing refuses is the step, and so is each of a whole run of them.
-  pub call-steps : (t : Table) → legal t ≡ true → (bs : List ℕ) → length bs ≡ t .count → (s : State) → Fits t s → s .clock < last-clock
-      → taken t bs s ≡ took (step t bs s)
-  pub run-steps : (t : Table) → legal t ≡ true → (a : List (List ℕ)) → Whole-steps t a → (s : State) → Fits t s
+  pub call-steps : (t : Table) → legal t ≡ true → (x : Input) → length (x .bytes) ≡ t .count → mask-ok t (x .mask) ≡ true → (s : State) → Fits t s
+      → s .clock < last-clock → taken t x s ≡ took (step t x s)
+  pub run-steps : (t : Table) → legal t ≡ true → (a : List Input) → Whole-steps t a → (s : State) → Fits t s
       → s .clock + length a ≤ last-clock → calls t a s ≡ map took (steps t a s)
-  -- The release, of every thread: phase 0 sets the rest to W and the rest of execution to W - B and clears the mark; before O, and in
-  -- other phases below D, nothing happens; from D on both rests are 0.
-  pub release-each : (t : Table) (n : ℕ) (s : State) (i : ℕ) → i < n → n ≤ length (s .threads)
-      → progress (release t n s) i ≡ released (thread t i) (s .clock) (progress s i)
+  -- A run starts fresh: at clock 0, all zero and unmarked, an event thread with P steps since release.
+  pub fresh-legal : (t : Table) → legal t ≡ true → fresh-given t ≡ fresh t
+  pub fresh-clock : (t : Table) → fresh t .clock ≡ 0
+  pub fresh-periodic : (t : Table) (i : ℕ) → i < t .count → thread t i .kind ≢ 1 → progress (fresh t) i ≡ no-progress
+  pub fresh-event : (t : Table) (i : ℕ) → i < t .count → thread t i .kind ≡ 1 → progress (fresh t) i ≡ with-since (thread t i .period) no-progress
+  -- The release, of every thread, by the clock or by events.
+  pub release-each : (t : Table) (mask : ℕ) (s : State) (i : ℕ) → i < t .count → i < length (s .threads)
+      → progress (release t mask s) i ≡ released (thread t i) (s .clock) (has-event mask i) (progress s i)
+  pub clock-released : (th : Thread) (c : ℕ) (e : Bool) (p : Progress) → th .kind ≢ 1 → released th c e p ≡ by-clock th c p
+  pub event-released : (th : Thread) (c : ℕ) (e : Bool) (p : Progress) → th .kind ≡ 1 → released th c e p ≡ by-event th e p
+  -- By the clock: phase 0 sets the rest to W and the rest of execution to W - B and clears the mark; before O, and in other phases below
+  -- D, nothing happens; from D on both rests are 0.
   pub at-release : (th : Thread) (c : ℕ) (p : Progress) → th .offset ≤ c → (c - th .offset) % th .period ≡ 0
-      → (released th c p .rest ≡ th .budget) × (released th c p .execution ≡ th .budget - th .blocking)
-      × (released th c p .finished ≡ false) × (released th c p .ran ≡ p .ran)
-  pub before-offset : (th : Thread) (c : ℕ) (p : Progress) → c < th .offset → released th c p ≡ p
+      → (by-clock th c p .rest ≡ th .budget) × (by-clock th c p .execution ≡ th .budget - th .blocking)
+      × (by-clock th c p .finished ≡ false) × (by-clock th c p .ran ≡ p .ran)
+  pub before-offset : (th : Thread) (c : ℕ) (p : Progress) → c < th .offset → by-clock th c p ≡ p
   pub other-phases : (th : Thread) (c : ℕ) (p : Progress) → th .offset ≤ c → (c - th .offset) % th .period ≢ 0
-      → (c - th .offset) % th .period < th .deadline → released th c p ≡ p
+      → (c - th .offset) % th .period < th .deadline → by-clock th c p ≡ p
   pub past-deadline : (th : Thread) (c : ℕ) (p : Progress) → th .offset ≤ c → (c - th .offset) % th .period ≢ 0
-      → th .deadline ≤ (c - th .offset) % th .period → released th c p ≡ with-execution 0 (with-rest 0 p)
+      → th .deadline ≤ (c - th .offset) % th .period → by-clock th c p ≡ cut p
+  -- By events: one that comes P or more steps after the last release does the same; an earlier one is lost; without a release nothing
+  -- happens before D, and D or more steps after the last release both rests are 0.
+  pub at-event : (th : Thread) (p : Progress) → th .period ≤ p .since
+      → (by-event th true p .rest ≡ th .budget) × (by-event th true p .execution ≡ th .budget - th .blocking)
+      × (by-event th true p .finished ≡ false) × (by-event th true p .ran ≡ p .ran) × (by-event th true p .since ≡ 0)
+  pub early-event : (th : Thread) (p : Progress) → p .since < th .period → by-event th true p ≡ by-event th false p
+  pub before-deadline : (th : Thread) (p : Progress) → p .since < th .deadline → by-event th false p ≡ p
+  pub after-deadline : (th : Thread) (p : Progress) → th .deadline ≤ p .since → by-event th false p ≡ cut p
   -- A thread runs by the byte 1, unless its finish mark is set or it has no execution left; 2 sets the mark; every other byte acts as 0.
   pub runs-exactly : (b : ℕ) (p : Progress) → (runs b p ≡ true) ↔ ((b ≡ 1) × (p .finished ≡ false) × (0 < p .execution))
   pub two-finishes : (i : ℕ) (s : State) → heard 2 i s ≡ finish s i
   pub strange-waits : (m : List Mark) (b i : ℕ) (s : State) → b ≢ 1 → b ≢ 2 → visit m b i s ≡ visit m 0 i s
   -- The thread chosen had a rest, and it runs, or is marked and waits; above it no thread with a rest runs or is marked.
-  pub chosen-rested : (t : Table) (bs : List ℕ) (s : State) → Rested (step t bs s .answer) (release t (t .count) s)
-  pub chosen-says : (t : Table) (bs : List ℕ) (s : State) → Says (marks-of t) bs (release t (t .count) s) (step t bs s .answer)
-  pub chosen-first : (t : Table) → Legal t → (bs : List ℕ) (s : State) (k i : ℕ) → Names k (step t bs s .answer)
-      → thread t k .priority < thread t i .priority → i < t .count → 0 < progress (release t (t .count) s) i .rest
-      → (marked t i ≡ false) × (runs (getD bs i 0) (progress (release t (t .count) s) i) ≡ false)
+  pub chosen-rested : (t : Table) (x : Input) (s : State) → Rested (step t x s .answer) (release t (x .mask) s)
+  pub chosen-says : (t : Table) (x : Input) (s : State) → Says (marks-of t) (x .bytes) (release t (x .mask) s) (step t x s .answer)
+  pub chosen-first : (t : Table) → Legal t → (x : Input) (s : State) (k i : ℕ) → Names k (step t x s .answer)
+      → thread t k .priority < thread t i .priority → i < t .count → 0 < progress (release t (x .mask) s) i .rest
+      → (marked t i ≡ false) × (runs (getD (x .bytes) i 0) (progress (release t (x .mask) s) i) ≡ false)
   -- The processor idles on nobody's account only where no thread with a rest runs or is marked.
-  pub idle-only : (t : Table) → Legal t → (bs : List ℕ) (s : State) → step t bs s .answer ≡ Idle → (i : ℕ) → i < t .count
-      → 0 < progress (release t (t .count) s) i .rest
-      → (marked t i ≡ false) × (runs (getD bs i 0) (progress (release t (t .count) s) i) ≡ false)
-  -- Every thread with a rest down to the chosen one, or all where nobody is chosen, pays one; those below it are as the release left them.
-  pub reached-pay-one : (t : Table) → Legal t → (bs : List ℕ) (s : State) → Fits t s → (i : ℕ) → i < t .count
-      → 0 < progress (release t (t .count) s) i .rest
-      → ((k : ℕ) → Names k (step t bs s .answer) → thread t k .priority ≤ thread t i .priority) → pays t bs s i ≡ 1
-  pub below-chosen : (t : Table) (bs : List ℕ) (s : State) (i k : ℕ) → Names i (step t bs s .answer)
-      → thread t k .priority < thread t i .priority → progress (step t bs s .state) k ≡ progress (release t (t .count) s) k
+  pub idle-only : (t : Table) → Legal t → (x : Input) (s : State) → step t x s .answer ≡ Idle → (i : ℕ) → i < t .count
+      → 0 < progress (release t (x .mask) s) i .rest
+      → (marked t i ≡ false) × (runs (getD (x .bytes) i 0) (progress (release t (x .mask) s) i) ≡ false)
+  -- Every thread with a rest down to the chosen one, or all where nobody is chosen, pays one; those below it are as the release left them, one tick
+  -- later.
+  pub reached-pay-one : (t : Table) → Legal t → (x : Input) (s : State) → Fits t s → (i : ℕ) → i < t .count
+      → 0 < progress (release t (x .mask) s) i .rest
+      → ((k : ℕ) → Names k (step t x s .answer) → thread t k .priority ≤ thread t i .priority) → pays t x s i ≡ 1
+  pub below-chosen : (t : Table) (x : Input) (s : State) (i k : ℕ) → Names i (step t x s .answer)
+      → thread t k .priority < thread t i .priority → progress (step t x s .state) k ≡ progress (tick t (release t (x .mask) s)) k
   -- Of each of those that pay, the finish mark is set then if it was before or the byte is 2.
-  pub reached-marks : (t : Table) → Legal t → (bs : List ℕ) (s : State) → Fits t s → (i : ℕ) → i < t .count
-      → 0 < progress (release t (t .count) s) i .rest
-      → ((k : ℕ) → Names k (step t bs s .answer) → thread t k .priority ≤ thread t i .priority)
-      → progress (step t bs s .state) i .finished ≡ or (progress (release t (t .count) s) i .finished) (eqb (getD bs i 0) 2)
+  pub reached-marks : (t : Table) → Legal t → (x : Input) (s : State) → Fits t s → (i : ℕ) → i < t .count
+      → 0 < progress (release t (x .mask) s) i .rest
+      → ((k : ℕ) → Names k (step t x s .answer) → thread t k .priority ≤ thread t i .priority)
+      → progress (step t x s .state) i .finished ≡ or (progress (release t (x .mask) s) i .finished) (eqb (getD (x .bytes) i 0) 2)
   -- So a thread pays one at most in a step, and between two releases W at most.
-  pub pays-once : (t : Table) (bs : List ℕ) (s : State) (i : ℕ) → pays t bs s i ≤ 1
-  pub payments-most : (t : Table) (i : ℕ) (bs : List ℕ) (more : List (List ℕ)) (s : State) → i < t .count → Fits t s
-      → ((c : ℕ) → s .clock < c → c ≤ s .clock + length more → releases t i c ≡ false) → payments t i (bs ∷ more) s ≤ thread t i .budget
+  pub pays-once : (t : Table) (x : Input) (s : State) (i : ℕ) → pays t x s i ≤ 1
+  pub payments-most : (t : Table) (i : ℕ) (x : Input) (more : List Input) (s : State) → i < t .count → Fits t s
+      → Unreleased t i more (step t x s .state) → payments t i (x ∷ more) s ≤ thread t i .budget
   -- It runs W - B at most between two releases, whatever it sends, and never with no execution left.
-  pub runs-most : (t : Table) (i : ℕ) (bs : List ℕ) (more : List (List ℕ)) (s : State) → t .count ≤ 32 → i < t .count → Fits t s
-      → ((c : ℕ) → s .clock < c → c ≤ s .clock + length more → releases t i c ≡ false)
-      → runs-of t i (bs ∷ more) s ≤ thread t i .budget - thread t i .blocking
-  pub runs-rested : (t : Table) (bs : List ℕ) (s : State) (i : ℕ) → step t bs s .answer ≡ Ran i
-      → 0 < progress (release t (t .count) s) i .execution
-  -- A thread with no rest is passed and stays as it is; a count goes up by one exactly if its thread ran, and then its rest of execution
+  pub runs-most : (t : Table) (i : ℕ) (x : Input) (more : List Input) (s : State) → t .count ≤ 32 → i < t .count → Fits t s
+      → Unreleased t i more (step t x s .state) → runs-of t i (x ∷ more) s ≤ thread t i .budget - thread t i .blocking
+  pub runs-rested : (t : Table) (x : Input) (s : State) (i : ℕ) → step t x s .answer ≡ Ran i
+      → 0 < progress (release t (x .mask) s) i .execution
+  -- A thread with no rest is passed and stays as the release left it, one tick later; a count goes up by one exactly if its thread ran, and then its rest of execution
   -- goes down by one.
-  pub rest-stays : (t : Table) (bs : List ℕ) (s : State) (i : ℕ) → progress (release t (t .count) s) i .rest ≡ 0
-      → progress (step t bs s .state) i ≡ progress (release t (t .count) s) i
-  pub step-counts : (t : Table) (bs : List ℕ) (s : State) → t .count ≤ 32 → Fits t s → (i : ℕ) → i < t .count
-      → progress (step t bs s .state) i .ran ≡ progress (release t (t .count) s) i .ran + ran-by i (step t bs s .answer)
-  pub step-runs : (t : Table) (bs : List ℕ) (s : State) (i : ℕ) → i < length (s .threads)
-      → progress (step t bs s .state) i .execution + ran-by i (step t bs s .answer) ≡ progress (release t (t .count) s) i .execution
-  -- A clock is a release exactly if it is at least O and its phase is 0.
-  pub releases-exactly : (t : Table) (i c : ℕ) → (releases t i c ≡ true) ↔ ((thread t i .offset ≤ c) × ((c - thread t i .offset) % thread t i .period ≡ 0))
+  pub rest-stays : (t : Table) (x : Input) (s : State) (i : ℕ) → progress (release t (x .mask) s) i .rest ≡ 0
+      → progress (step t x s .state) i ≡ progress (tick t (release t (x .mask) s)) i
+  pub step-counts : (t : Table) (x : Input) (s : State) → t .count ≤ 32 → Fits t s → (i : ℕ) → i < t .count
+      → progress (step t x s .state) i .ran ≡ progress (release t (x .mask) s) i .ran + ran-by i (step t x s .answer)
+  pub step-runs : (t : Table) (x : Input) (s : State) (i : ℕ) → i < length (s .threads)
+      → progress (step t x s .state) i .execution + ran-by i (step t x s .answer) ≡ progress (release t (x .mask) s) i .execution
+  -- A step is a release of a periodic thread exactly if the clock is at least O and the phase is 0, of an event thread exactly if its event
+  -- comes P or more steps after its last release.
+  pub releases-exactly : (t : Table) (i mask : ℕ) (s : State) → (releases t i mask s ≡ true) ↔ Release-due t i mask s
+  -- So two releases of a thread are at least P steps apart, and in any L steps in a row it is released ceil(L / P) times at most.
+  pub releases-apart : (t : Table) → legal t ≡ true → Sized t → (i : ℕ) → i < t .count → (a : List Input) (s : State) → Fits t s → (j k : ℕ) → j < k
+      → getD (releases-in t i a s) j false ≡ true → getD (releases-in t i a s) k false ≡ true → j + thread t i .period ≤ k
+  pub releases-most : (t : Table) → legal t ≡ true → Sized t → (i : ℕ) → i < t .count → (a : List Input) (s : State) → Fits t s → (from many : ℕ)
+      → happened (take many (drop from (releases-in t i a s))) ≤ ceil many (thread t i .period)
+  -- The steps since an event thread's release go up by one with the clock, P at most; a periodic thread's stay. Nothing else ages.
+  pub since-grows : (t : Table) (x : Input) (s : State) (i : ℕ) → i < t .count → i < length (s .threads) → thread t i .kind ≡ 1
+      → progress (release t (x .mask) s) i .since < thread t i .period
+      → progress (step t x s .state) i .since ≡ progress (release t (x .mask) s) i .since + 1
+  pub since-stops : (t : Table) (x : Input) (s : State) (i : ℕ) → i < t .count → i < length (s .threads) → thread t i .kind ≡ 1
+      → thread t i .period ≤ progress (release t (x .mask) s) i .since
+      → progress (step t x s .state) i .since ≡ progress (release t (x .mask) s) i .since
+  pub since-periodic : (t : Table) (x : Input) (s : State) (i : ℕ) → i < t .count → i < length (s .threads) → thread t i .kind ≢ 1
+      → progress (step t x s .state) i .since ≡ progress (release t (x .mask) s) i .since
+  pub tick-leaves : (t : Table) (s : State) (i : ℕ)
+      → (progress (tick t s) i .rest ≡ progress s i .rest) × (progress (tick t s) i .execution ≡ progress s i .execution)
+      × (progress (tick t s) i .finished ≡ progress s i .finished) × (progress (tick t s) i .ran ≡ progress s i .ran)
   -- The clock goes up by one.
-  pub step-clock : (t : Table) (bs : List ℕ) (s : State) → step t bs s .state .clock ≡ s .clock + 1
+  pub step-clock : (t : Table) (x : Input) (s : State) → step t x s .state .clock ≡ s .clock + 1
   -- The demand is W and the sum of what each thread brings; a bound is the smallest length from W to D whose demand is at most that
   -- length, and there is none exactly where no length is so.
   pub demands : (t : Table) (i x n : ℕ) → (demand t i x ≡ thread t i .budget + n) ↔ Sum-of (Demands t i x) (t .count) n

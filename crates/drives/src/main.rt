@@ -69,11 +69,33 @@ fn thread(seed: u64) -> u8 {
     }
 }
 
+// The story with a load monitor that wakes when the safety chain reports: thread 2 is of event kind.
+fn reported() -> Table {
+    let mut t = story();
+    t.version = 2;
+    t.threads[2].kind = 1;
+    t
+}
+
 fn table(seed: u64) -> Table {
     if seldom(seed, 9, 3) {
         return example();
     }
+    if seldom(seed, 13, 2) {
+        return reported();
+    }
     story()
+}
+
+// The mask of a step: where the monitor wakes by events, one step in four has one.
+fn mask(version: u8, seed: u64) -> u32 {
+    if version == 1 {
+        return 0;
+    }
+    if seldom(seed, 14, 4) {
+        return 4;
+    }
+    0
 }
 
 // What is damaged in a call: nothing (0) in three of four.
@@ -81,7 +103,7 @@ fn harm(seed: u64) -> u16 {
     if !seldom(seed, 10, 4) {
         return 0;
     }
-    std::num::wrapping_add_u16(1, below(seed, 11, 16))
+    std::num::wrapping_add_u16(1, below(seed, 11, 18))
 }
 
 // 1 and 2: a table without threads, and one whose first domain does not flow to itself.
@@ -122,12 +144,21 @@ fn length(count: u8, harm: u16) -> usize {
     }
 }
 
-// 8: no such thread; 9: a rate of 0, 16 too; 10 to 13: a position or a command one beyond an end, or an end of the type; 14 and
+// 17 and 18: an event of a periodic thread, and one of a missing thread.
+fn harmed_mask(mask: u32, harm: u16) -> u32 {
+    match harm {
+        17 => 1,
+        18 => 2147483648,
+        _ => mask,
+    }
+}
+
+// 8: no such thread, 18 too; 9: a rate of 0, 16 too; 10 to 13: a position or a command one beyond an end, or an end of the type; 14 and
 // 15: a thread and a rate.
 fn harmed_actuator(a: Actuator, harm: u16) -> Actuator {
     let mut b = a;
     match harm {
-        8 => b.thread = 200,
+        8 | 18 => b.thread = 200,
         9 | 16 => b.rate = 0,
         10 => b.position = -5001,
         11 => b.position = 95001,
@@ -177,18 +208,26 @@ struct Drive {
     good: bool,
 }
 
-fn both(t: Table, s: State, a: Actuator, bytes: &[u8], command: i64) -> Drive {
-    let driven = actuator::drive(t, s, a, bytes, command);
-    let good = agrees(driven, t, s, a, bytes, command);
+fn both(t: Table, s: State, a: Actuator, mask: u32, bytes: &[u8], command: i64) -> Drive {
+    let driven = actuator::drive(t, s, a, mask, bytes, command);
+    let good = agrees(driven, t, s, a, mask, bytes, command);
     Drive { driven, good }
 }
 
 // On the first n bytes.
-fn both_on(t: Table, s: State, a: Actuator, bytes: &[u8], n: usize, command: i64) -> Drive {
+fn both_on(
+    t: Table,
+    s: State,
+    a: Actuator,
+    mask: u32,
+    bytes: &[u8],
+    n: usize,
+    command: i64,
+) -> Drive {
     if n <= bytes.len() {
-        return both(t, s, a, &bytes[..n], command);
+        return both(t, s, a, mask, &bytes[..n], command);
     }
-    both(t, s, a, bytes, command)
+    both(t, s, a, mask, bytes, command)
 }
 
 // A run under way.
@@ -209,6 +248,7 @@ fn round(tally: &mut Tally, t: Table, g: Game, seed: u64) -> Game {
         u,
         harmed_state(s, h),
         b,
+        harmed_mask(mask(t.version, seed), h),
         &bytes,
         length(t.count, h),
         command(seed),
@@ -227,7 +267,8 @@ fn round(tally: &mut Tally, t: Table, g: Game, seed: u64) -> Game {
 // A run of 30 calls.
 fn play(tally: &mut Tally, seed: u64) {
     let t = table(seed);
-    let state = scheduler::fresh();
+    let started = scheduler::fresh(t);
+    let state = started.state;
     let actuator = actuator::start(place(seed), rate(seed), thread(seed));
     let mut g = Game { state, actuator };
     for k in 0..30u32 {
@@ -243,6 +284,7 @@ fn report(tally: &Tally) {
     line(tally, 13, b" refused with 13\n");
     line(tally, 14, b" refused with 14\n");
     line(tally, 15, b" refused with 15\n");
+    line(tally, 18, b" refused with 18\n");
     line(tally, 20, b" refused with 20\n");
     line(tally, WRONG, b" disagreements\n");
 }

@@ -9,24 +9,39 @@ use table::Table;
 use tally::Tally;
 use tally::count;
 
+// What becomes of the events of a step that is made.
+fn events(tally: &mut Tally, t: Table, s: State, mask: u32) {
+    for i in 0..32u8 {
+        let f = t.threads[i as usize % 32];
+        let p = s.threads[i as usize % 32];
+        count(tally, bout::event(f, p, mask, i));
+    }
+}
+
 // A run of some steps.
 fn run(tally: &mut Tally, seed: u64, t: Table, from: State, steps: u32) {
     let mut s = from;
     for k in 0..steps {
-        let bytes = deal::bytes(part(seed, k));
-        let r = bout::step(t, s, &bytes, t.count);
+        let own = part(seed, k);
+        let bytes = deal::bytes(own);
+        let mask = deal::mask(own, t);
+        let r = bout::step(t, s, mask, &bytes, t.count);
         count(tally, r.kind);
+        if r.kind <= bout::IDLE {
+            events(tally, t, s, mask);
+        }
         s = r.state;
     }
 }
 
-// One step of a table and a state that may both be damaged, with the right number of bytes or a wrong one; and what a domain is
-// shown of it.
+// One step of a table and a state that may both be damaged, with the right number of bytes or a wrong one; what a domain is shown of
+// it; and the table's fresh state.
 fn try_out(tally: &mut Tally, seed: u64, t: Table, s: State) {
     let bytes = deal::bytes(seed);
     let n = bout::some_length(seed, t.count);
-    let r = bout::step(t, s, &bytes, n);
+    let r = bout::step(t, s, deal::mask(seed, t), &bytes, n);
     count(tally, r.kind);
+    count(tally, bout::fresh(t));
     count(tally, bout::marks(t));
     count(tally, bout::shown(part(seed, 1), t));
     count(tally, bout::shown_state(part(seed, 2), t, r.state));
@@ -58,8 +73,9 @@ fn damaged_states(tally: &mut Tally, seed: u64, t: Table) {
 
 fn play_table(tally: &mut Tally, seed: u64) {
     let t = deal::table(seed);
+    let start = scheduler::fresh(t);
     count(tally, report::TABLES);
-    run(tally, part(seed, 1), t, scheduler::fresh(), 30);
+    run(tally, part(seed, 1), t, start.state, 30);
     for k in 2..9u32 {
         let own = part(seed, k);
         run(tally, own, t, deal::state(own, t), 2);

@@ -19,6 +19,9 @@ fn steps(tally: &Tally) {
     line(tally, bout::REFUSED + 12, b" steps refused with 12\n");
     line(tally, bout::REFUSED + 13, b" steps refused with 13\n");
     line(tally, bout::REFUSED + 14, b" steps refused with 14\n");
+    line(tally, bout::REFUSED + 18, b" steps refused with 18\n");
+    line(tally, bout::RELEASED, b" events that released a thread\n");
+    line(tally, bout::LOST, b" events that came too early\n");
 }
 
 fn damage(tally: &Tally) {
@@ -30,16 +33,24 @@ fn damage(tally: &Tally) {
     line(tally, 25, b" tables with a field just past its range\n");
     line(tally, 26, b" tables with a field of any value\n");
     line(tally, 27, b" tables with an unused place not zero\n");
+    line(
+        tally,
+        28,
+        b" tables with a version or a kind that there is not\n",
+    );
     line(tally, 30, b" states with a rest above its budget\n");
     line(tally, 31, b" states with a count above the clock\n");
     line(tally, 32, b" states with a clock above 1,000,000,000\n");
     line(tally, 33, b" states with a clock of 1,000,000,000\n");
     line(tally, 34, b" states with an unused place not zero\n");
+    line(tally, 35, b" states with too many steps since a release\n");
 }
 
 pub fn report(tally: &Tally) {
     steps(tally);
     damage(tally);
+    line(tally, bout::STARTED, b" fresh states\n");
+    line(tally, bout::UNSTARTED, b" fresh states refused\n");
     line(tally, bout::MARKED, b" legal tables with a mark\n");
     line(tally, bout::UNMARKED, b" legal tables without one\n");
     line(tally, bout::NOT_LEGAL, b" marks refused\n");

@@ -6,18 +6,27 @@ use Rattle.table.specs.Threads.{thread-of, none}
 use Rattle.table.specs.declared.Table.{Table}
 use Rattle.table.specs.declared.Thread.{Thread}
 
--- A table with these rows and threads, and zeros in the places that are not in use.
+-- A table of version 1 with these rows and threads, and zeros in the places that are not in use.
 abbrev pub table-of : List ℕ → List Thread → Table
 table-of rows ths = record {
+  version = 1;
   domains = length rows;
   count = length ths;
   rows = rows ++ replicate (16 - length rows) 0;
   threads = ths ++ replicate (32 - length ths) none;
 }
 
--- A thread by its fields, in document 01's order.
+-- A periodic thread by its fields, in document 01's order.
 abbrev pub task : ℕ → ℕ → ℕ → ℕ → ℕ → ℕ → ℕ → Thread
 task d p period o w deadline b = thread-of (d ∷ p ∷ period ∷ o ∷ w ∷ deadline ∷ b ∷ [])
+
+-- An event thread by its fields; its offset is 0.
+abbrev pub event : ℕ → ℕ → ℕ → ℕ → ℕ → ℕ → Thread
+event d p period w deadline b = thread-of (d ∷ p ∷ period ∷ 0 ∷ w ∷ deadline ∷ b ∷ 1 ∷ [])
+
+-- A table in this version.
+abbrev pub in-version : ℕ → Table → Table
+in-version v t = record { version = v; domains = t .domains; count = t .count; rows = t .rows; threads = t .threads }
 
 -- Thread 0 of domain 1 stands above thread 1 of domain 0.
 abbrev pub upper : Thread

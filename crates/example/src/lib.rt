@@ -7,11 +7,20 @@ use table::Thread;
 use table::make_thread;
 use table::no_thread;
 
-// A thread with a period of 10 steps, released at clock 0 and due at the period's end.
+// A periodic thread with a period of 10 steps, released at clock 0 and due at the period's end.
 fn task(domain: u8, priority: u8, budget: u16, blocking: u16) -> Thread
     ensures { λ r. ⌜ r ≡ the-task domain priority 10 0 budget 10 blocking ⌝ }
 {
-    make_thread([domain as u16, priority as u16, 10, 0, budget, 10, blocking])
+    make_thread([
+        domain as u16,
+        priority as u16,
+        10,
+        0,
+        budget,
+        10,
+        blocking,
+        0,
+    ])
 }
 
 // Example E: thread 0 is private and stands above thread 1.
@@ -26,6 +35,7 @@ pub fn example() -> Table
     threads[0] = task(1, 30, 4, 2);
     threads[1] = task(0, 20, 3, 0);
     Table {
+        version: 1,
         domains: 2,
         count: 2,
         rows,
@@ -47,6 +57,7 @@ pub fn story() -> Table
     threads[1] = task(1, 10, 2, 0);
     threads[2] = task(2, 30, 4, 3);
     Table {
+        version: 1,
         domains: 3,
         count: 3,
         rows,

@@ -1,6 +1,6 @@
 -- What two states have in common for a domain d, and that the parts of a step keep it: what d may see is the same, and a
 -- hidden thread above a visible one, which could hold the visible one up, has the same account.
-use Prim.Native.Nat.{ℕ, zero, suc}
+use Prim.Native.Nat.{ℕ, zero, suc, _+_}
 use native.Mathlib.Nat.{suc-inj, suc-ne-zero}
 use mathlib.Core.Path.{_≡_, refl, sym, ap, _∙_, subst}
 use mathlib.Core.List.{List, [], _∷_}
@@ -10,11 +10,12 @@ use lib.Seq.{set-getD}
 use Rattle.basis.proofs.TestLaws.{refuted}
 use Rattle.table.specs.Threads.{thread}
 use Rattle.table.specs.declared.Table.{Table}
-use Rattle.state.specs.State.{no-progress, progress, put}
-use Rattle.state.specs.Release.{released, release}
+use Rattle.state.specs.State.{no-progress, progress, put, each-thread}
+use Rattle.state.specs.Release.{has-event, released, release}
+use Rattle.state.specs.Methods.{aged, tick}
 use Rattle.state.specs.declared.Progress.{Progress}
 use Rattle.state.specs.declared.State.{State}
-use Rattle.state.proofs.AccountLaws.{account, Fair, Keeps, released-fair}
+use Rattle.state.proofs.AccountLaws.{account, Fair, Keeps, released-fair, aged-fair}
 use Rattle.sight.specs.Shown.{visible}
 use Rattle.sight.proofs.GuardLaws.{guards}
 
@@ -86,9 +87,22 @@ module _ (t : Table) (d : ℕ) where
   pub alike-hidden : (s : State) (i : ℕ) (x : Progress) → visible t d i ≡ false → guards t d i ≡ false → Alike t d s (put s i x)
   alike-hidden s i x v g = alike-store s i x (record { seen = λ w. refuted w v; held = λ w. refuted w g })
 
-  pub alike-release : (n : ℕ) (s r : State) → Alike t d s r → Alike t d (release t n s) (release t n r)
+  -- Each thread changed fairly, on both sides.
+  alike-each : (f : ℕ → Progress → Progress) → ((i : ℕ) → Fair (f i)) → (n : ℕ) (s r : State) → Alike t d s r
+      → Alike t d (each-thread f n s) (each-thread f n r)
+  unfolding each-thread
+  alike-each f fair zero s r a = a
+  alike-each f fair (suc n) s r a = alike-change (f n) (fair n) _ _ n (alike-each f fair n s r a)
+
+  pub alike-release : (mask : ℕ) (s r : State) → Alike t d s r → Alike t d (release t mask s) (release t mask r)
   unfolding release
-  alike-release zero s r a = a
-  alike-release (suc n) s r a =
-      let P : ℕ → Type 0 = λ c. Alike t d (release t (suc n) s) (put (release t n r) n (released (thread t n) c (progress (release t n r) n))) in
-      subst P (a .clocks) (alike-change (released (thread t n) (s .clock)) (released-fair (thread t n) (s .clock)) _ _ n (alike-release n s r a))
+  alike-release mask s r a =
+      let own : ℕ → ℕ → Progress → Progress = λ c i. released (thread t i) c (has-event mask i) in
+      subst (λ (c : ℕ). Alike t d (each-thread (own (s .clock)) (t .count) s) (each-thread (own c) (t .count) r)) (a .clocks)
+      (alike-each (own (s .clock)) (λ i. released-fair (thread t i) (s .clock) (has-event mask i)) (t .count) s r a)
+
+  pub alike-tick : (s r : State) → Alike t d s r → Alike t d (tick t s) (tick t r)
+  unfolding tick
+  alike-tick s r a =
+      let e = alike-each (λ i. aged (thread t i)) (λ i. aged-fair (thread t i)) (t .count) s r a in
+      record { clocks = ap (λ n. n + 1) (a .clocks); long = e .long; common = e .common }

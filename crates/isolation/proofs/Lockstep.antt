@@ -28,7 +28,6 @@ use Rattle.walk.proofs.ReachedLaws.{reached-pays, marked-ends}
 use Rattle.sight.specs.Shown.{visible, view}
 use Rattle.sight.proofs.SightLaws.{unseen-gap, idle-gap, nobody-gap}
 use Rattle.sight.proofs.GuardLaws.{guards, Guarded, guarded, guards-of, guard-of}
-use Rattle.isolation.specs.Isolated.{Same-step}
 use Rattle.isolation.proofs.Alike.{Alike, alike-refl, alike-sym, alike-trans, alike-change, alike-kept, alike-hidden}
 
 -- Two walks show d the same and end alike.
@@ -164,14 +163,14 @@ module _ (t : Table) (d : ℕ) where
         let w = visits s r a in
         both (Agree t d) (chosen (visit m (getD bs i 0) i s .answer)) _ (w .ends) (λ _. w .agree) (λ _. on _ _ (w .agree .alike))
 
-    pub lockstep : (bs cs : List ℕ) → Same-step t d bs cs → (is : List ℕ) → Falling t is → Below (t .count) is → Onward bs cs is
+    pub lockstep : (bs cs : List ℕ) → ((i : ℕ) → visible t d i ≡ true → getD bs i 0 ≡ getD cs i 0) → (is : List ℕ) → Falling t is → Below (t .count) is → Onward bs cs is
     unfolding walk
     lockstep bs cs h [] f c = λ s r a. record { same = refl; alike = a }
     lockstep bs cs h (i ∷ is) f c = go (lockstep bs cs h is (f .1) (c .1)) (visible t d i) refl (guards t d i) refl
       where
         go : Onward bs cs is → (v : Bool) → visible t d i ≡ v → (g : Bool) → guards t d i ≡ g → Onward bs cs (i ∷ is)
         go on true v g q =
-            let e : getD bs i 0 ≡ getD cs i 0 = cc (h .same i v) in
+            let e : getD bs i 0 ≡ getD cs i 0 = h i v in
             abreast-on bs cs i is (λ s r a. rw e (visible-visit m (getD cs i 0) i s r v a)) on
         go on false v true q =
             abreast-on bs cs i is (λ s r a. marked-visit m _ _ i s r v q (marks i (c .0) ∙ guard-of t d l dd i (c .0) v q) a) on

@@ -9,7 +9,8 @@ use lib.Dec.{lit<}
 use Rattle.table.specs.Legal.{legal}
 use Rattle.example.specs.Story.{story, monitor-sends}
 use Rattle.state.specs.State.{fresh}
-use Rattle.scheduler.specs.Calls.{calls}
+use Rattle.walk.specs.Step.{quiet}
+use Rattle.scheduler.specs.Calls.{quietly, calls}
 use Rattle.sight.specs.Shown.{visible}
 use Rattle.isolation.specs.Isolated.{shown-of, Same-step, Same-steps, ended, next}
 use Rattle.isolation.specs.Opened.{opened}
@@ -20,9 +21,9 @@ unfolding opened
 story-legal = refl
 
 -- The monitor's domain may not flow to the pitch loop's.
-pub same-step : (x y : ℕ) → Same-step story 0 (1 ∷ 1 ∷ x ∷ []) (1 ∷ 1 ∷ y ∷ [])
+pub same-step : (x y : ℕ) → Same-step story 0 (quiet (1 ∷ 1 ∷ x ∷ [])) (quiet (1 ∷ 1 ∷ y ∷ []))
 unfolding opened
-same-step x y = record { long = refl; same = λ i v. cc (same i v) }
+same-step x y = record { masks = refl; long = refl; same = λ i v. cc (same i v) }
   where
     same : (i : ℕ) → visible story 0 i ≡ true → getD (1 ∷ 1 ∷ x ∷ []) i 0 ≡ getD (1 ∷ 1 ∷ y ∷ []) i 0
     same zero v = refl
@@ -30,13 +31,13 @@ same-step x y = record { long = refl; same = λ i v. cc (same i v) }
     same (suc (suc zero)) v = absurd (false≢true v)
     same (suc (suc (suc i))) v = refl
 
-same-steps : (xs ys : List ℕ) → length xs ≡ length ys → Same-steps story 0 (monitor-sends xs) (monitor-sends ys)
+same-steps : (xs ys : List ℕ) → length xs ≡ length ys → Same-steps story 0 (quietly (monitor-sends xs)) (quietly (monitor-sends ys))
 same-steps [] [] h = ended
 same-steps [] (y ∷ ys) h = absurd (suc-ne-zero _ (sym h))
 same-steps (x ∷ xs) [] h = absurd (suc-ne-zero _ h)
 same-steps (x ∷ xs) (y ∷ ys) h = next (same-step x y) (same-steps xs ys (suc-inj h))
 
 pub whatever-the-monitor-sends : (xs ys : List ℕ) → length xs ≡ length ys
-    → map (shown-of story 0) (calls story (monitor-sends xs) fresh) ≡ map (shown-of story 0) (calls story (monitor-sends ys) fresh)
+    → map (shown-of story 0) (calls story (quietly (monitor-sends xs)) (fresh story)) ≡ map (shown-of story 0) (calls story (quietly (monitor-sends ys)) (fresh story))
 whatever-the-monitor-sends xs ys h =
-    demand-3 story story-legal (record { rows = refl; threads = refl }) 0 (lit< tt) (monitor-sends xs) (monitor-sends ys) (same-steps xs ys h)
+    demand-3 story story-legal (record { rows = refl; threads = refl }) 0 (lit< tt) (quietly (monitor-sends xs)) (quietly (monitor-sends ys)) (same-steps xs ys h)

@@ -1,5 +1,5 @@
--- Demand 3: change at will the bytes of all threads whose domain may not flow to d, and at every step of a run from a fresh
--- start d is shown the same thread or the same gap, and of each thread that it may see the same rests, finish mark and count.
+-- Demand 3: change at will the bytes of all threads whose domain may not flow to d, with the same public masks, and at every step of a run
+-- from a fresh start d is shown the same thread or the same gap, and of each thread that it may see the same rests, finish mark and count.
 use Prim.Native.Nat.{ℕ, _<_}
 use mathlib.Core.Path.{_≡_}
 use mathlib.Core.List.{List, [], _∷_, map}
@@ -11,6 +11,7 @@ use Rattle.basis.specs.Told.{Told}
 use Rattle.table.specs.declared.Table.{Table}
 use Rattle.state.specs.State.{fresh}
 use Rattle.state.specs.declared.Progress.{Progress}
+use Rattle.walk.specs.Step.{Input}
 use Rattle.scheduler.specs.Taken.{Taken, answer-of}
 use Rattle.scheduler.specs.Calls.{calls}
 use Rattle.sight.specs.Shown.{visible, showing, showing-state, threads-shown}
@@ -33,17 +34,18 @@ shown-of t d r = record {
   threads = threads-shown t (r .state) d;
 }
 
--- Two steps with as many bytes (13 refuses both or neither), the same for each thread whose domain may flow to d.
-pub record Same-step (t : Table) (d : ℕ) (bs cs : List ℕ) : Type 0 where
-  pub long : length bs ≡ length cs
-  pub same : (i : ℕ) → visible t d i ≡ true → getD bs i 0 ≡ getD cs i 0
+-- Two steps with the same mask and as many bytes (13 refuses both or neither), the same for each thread whose domain may flow to d.
+pub record Same-step (t : Table) (d : ℕ) (x y : Input) : Type 0 where
+  pub masks : x .mask ≡ y .mask
+  pub long : length (x .bytes) ≡ length (y .bytes)
+  pub same : (i : ℕ) → visible t d i ≡ true → getD (x .bytes) i 0 ≡ getD (y .bytes) i 0
 
 -- As many steps in both lists, and each two so.
-pub data Same-steps (t : Table) (d : ℕ) : List (List ℕ) → List (List ℕ) → Type 0 where
+pub data Same-steps (t : Table) (d : ℕ) : List Input → List Input → Type 0 where
   ended : Same-steps t d [] []
-  next : {bs cs : List ℕ} {us vs : List (List ℕ)} → Same-step t d bs cs → Same-steps t d us vs → Same-steps t d (bs ∷ us) (cs ∷ vs)
+  next : {x y : Input} {us vs : List Input} → Same-step t d x y → Same-steps t d us vs → Same-steps t d (x ∷ us) (y ∷ vs)
 
 -- From a fresh start each domain of the table is shown the same at every step.
 abbrev pub Isolated : Table → Type 0
-Isolated t = (d : ℕ) → d < t .domains → (a b : List (List ℕ)) → Same-steps t d a b
-    → map (shown-of t d) (calls t a fresh) ≡ map (shown-of t d) (calls t b fresh)
+Isolated t = (d : ℕ) → d < t .domains → (a b : List Input) → Same-steps t d a b
+    → map (shown-of t d) (calls t a (fresh t)) ≡ map (shown-of t d) (calls t b (fresh t))

@@ -1,9 +1,13 @@
 -- A statement of document 01: what the definitions compute, and what was found by hand.
 use Prim.Native.Nat.{ℕ, _+_}
-use mathlib.Core.Path.{_≡_}
-use mathlib.Core.List.{List, _∷_, _++_, map}
+use mathlib.Core.Path.{_≡_, refl, ap₂}
+use mathlib.Core.List.{List, [], _∷_, _++_, map}
+use mathlib.Core.Bool.{Bool, true, false, false≢true}
 use lib.ListN.{length}
-use Rattle.basis.specs.Tests.{pick}
+use lib.Dec.{eqb}
+use borrow.Author.Tests.{eqb-true}
+use Rattle.basis.specs.Tests.{pick, and}
+use Rattle.basis.proofs.TestLaws.{and-both}
 use Rattle.basis.specs.Told.{Told}
 use Rattle.flow.specs.Gap.{first-gap, gap-told}
 use Rattle.table.specs.Legal.{legal}
@@ -22,6 +26,34 @@ pub record Entry : Type 0 where
 -- The claim of a list: each entry computes to what was found by hand.
 abbrev pub Holds : List Entry → Type 0
 Holds es = map (λ (e : Entry). e .computed) es ≡ map (λ (e : Entry). e .by-hand) es
+
+-- The same numbers, of two lists and of each entry.
+unfoldable pub same : List ℕ → List ℕ → Bool
+same [] [] = true
+same [] (y ∷ ys) = false
+same (x ∷ xs) [] = false
+same (x ∷ xs) (y ∷ ys) = and (eqb x y) (same xs ys)
+
+unfoldable pub all-same : List Entry → Bool
+all-same [] = true
+all-same (e ∷ es) = and (same (e .computed) (e .by-hand)) (all-same es)
+
+-- So a claim may be computed number by number, which takes far fewer steps than to compare the two sides as terms.
+same-lists : (xs ys : List ℕ) → same xs ys ≡ true → xs ≡ ys
+unfolding same
+same-lists [] [] h = refl
+same-lists [] (y ∷ ys) h = absurd (false≢true h)
+same-lists (x ∷ xs) [] h = absurd (false≢true h)
+same-lists (x ∷ xs) (y ∷ ys) h =
+    let p = and-both (eqb x y) (same xs ys) h in
+    ap₂ _∷_ (eqb-true x y (p .0)) (same-lists xs ys (p .1))
+
+pub by-numbers : (es : List Entry) → all-same es ≡ true → Holds es
+unfolding all-same
+by-numbers [] h = refl
+by-numbers (e ∷ es) h =
+    let p = and-both (same (e .computed) (e .by-hand)) (all-same es) h in
+    ap₂ _∷_ (same-lists (e .computed) (e .by-hand) (p .0)) (by-numbers es (p .1))
 
 -- A number of document 01, followed by its values.
 abbrev pub flat : Told → List ℕ

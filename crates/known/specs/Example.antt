@@ -5,7 +5,7 @@ use lib.ListN.{replicate}
 use Rattle.table.specs.Threads.{none, fields}
 use Rattle.table.specs.declared.Table.{Table}
 use Rattle.table.specs.declared.Thread.{Thread}
-use Rattle.example.specs.Example.{table-of, task, upper, lower}
+use Rattle.example.specs.Example.{table-of, task, event, in-version, upper, lower}
 
 -- E's thread 0 with an offset of 3, and so with a deadline of 5 behind it.
 abbrev pub later : Thread
@@ -44,16 +44,20 @@ short-deadlines = table-of (1 ∷ []) (task 0 2 10 0 1 1 0 ∷ task 0 1 10 0 3 3
 
 -- E with row 2 set, though it has two domains: not legal.
 abbrev pub row-too-many : Table
-row-too-many = record { domains = 2; count = 2; rows = 3 ∷ 2 ∷ 4 ∷ replicate 13 0; threads = upper ∷ lower ∷ replicate 30 none }
+row-too-many = record { version = 1; domains = 2; count = 2; rows = 3 ∷ 2 ∷ 4 ∷ replicate 13 0; threads = upper ∷ lower ∷ replicate 30 none }
 
 -- E with this in the last thread place, though it has two threads.
 abbrev pub place-too-many : Thread → Table
-place-too-many th = record { domains = 2; count = 2; rows = 3 ∷ 2 ∷ replicate 14 0; threads = upper ∷ lower ∷ (replicate 29 none ++ (th ∷ [])) }
+place-too-many th = record { version = 1; domains = 2; count = 2; rows = 3 ∷ 2 ∷ replicate 14 0; threads = upper ∷ lower ∷ (replicate 29 none ++ (th ∷ [])) }
 
--- Every number that a table has room for: domains, threads, 16 rows, 32 times seven fields.
+-- E in version 2, with thread 1 released by events.
+abbrev pub eventful : Table
+eventful = in-version 2 (two 3 2 upper (event 0 20 10 3 10 0))
+
+-- Every number that a table has room for: version, domains, threads, 16 rows, 32 times eight fields.
 abbrev pub all-fields : List Thread → List ℕ
 all-fields [] = []
 all-fields (th ∷ ths) = fields th ++ all-fields ths
 
 abbrev pub written-out : Table → List ℕ
-written-out t = t .domains ∷ t .count ∷ (t .rows ++ all-fields (t .threads))
+written-out t = t .version ∷ t .domains ∷ t .count ∷ (t .rows ++ all-fields (t .threads))

@@ -5,13 +5,14 @@ use mathlib.Core.List.{List, [], _∷_, _++_}
 use mathlib.Core.Bool.{false}
 use lib.ListN.{replicate}
 use Rattle.example.specs.Example.{example, upper, waiting}
+use Rattle.state.specs.State.{fresh-given}
 use Rattle.reader.specs.Opened.{opened as reader-opened}
 use Rattle.scheduler.specs.Opened.{opened as steps-opened}
 use Rattle.sight.specs.Opened.{opened as sight-opened}
 use Rattle.admission.specs.Bounded.{bounding}
 use Rattle.admission.specs.Prohibition.{prohibiting}
 use Rattle.admission.specs.Opened.{opened as admission-opened}
-use Rattle.known.specs.Entry.{Entry, Holds, flat, number-of, gap-of, is-legal, marks-told, admit-told}
+use Rattle.known.specs.Entry.{Entry, Holds, same, all-same, by-numbers, flat, number-of, gap-of, is-legal, marks-told, admit-told}
 use Rattle.known.specs.Example.{lower-with, two, both-ways, short-deadlines}
 use Rattle.known.specs.Runs.{ran, idle-for, idle, seen, gap, joined, left, at, state, answers, state-after, shown-to}
 
@@ -72,5 +73,5 @@ known =
 
 -- The one claim.
 pub all-known : Holds known
-unfolding reader-opened steps-opened sight-opened admission-opened
-all-known = refl
+unfolding reader-opened steps-opened sight-opened admission-opened fresh-given same all-same
+all-known = by-numbers known refl

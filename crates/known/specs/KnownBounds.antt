@@ -8,7 +8,7 @@ use Rattle.example.specs.Example.{task, example, upper, lower}
 use Rattle.admission.specs.Bounded.{bounding}
 use Rattle.admission.specs.Prohibition.{prohibiting}
 use Rattle.admission.specs.Opened.{opened as admission-opened}
-use Rattle.known.specs.Entry.{Entry, Holds, flat, admit-told}
+use Rattle.known.specs.Entry.{Entry, Holds, same, all-same, by-numbers, flat, admit-told}
 use Rattle.known.specs.Example.{later, lower-with, top, two, with-threads, exchanged, both-ways, row-too-many}
 use Rattle.known.specs.Runs.{joined}
 
@@ -69,5 +69,5 @@ known =
     ∷ []
 
 pub all-bounds : Holds known
-unfolding admission-opened
-all-bounds = refl
+unfolding admission-opened same all-same
+all-bounds = by-numbers known refl

@@ -4,15 +4,16 @@ use mathlib.Core.Path.{refl}
 use mathlib.Core.List.{List, [], _∷_, _++_, map}
 use lib.ListN.{set, take, replicate}
 use Rattle.basis.specs.Search.{listed}
+use Rattle.table.specs.Threads.{thread-of}
 use Rattle.table.specs.declared.Table.{Table}
-use Rattle.example.specs.Example.{table-of, task, example, example-bytes, upper, lower}
+use Rattle.example.specs.Example.{table-of, task, event, in-version, example, example-bytes, upper, lower}
 use Rattle.example.specs.Story.{story}
 use Rattle.reader.specs.Reader.{reading}
 use Rattle.reader.specs.Opened.{opened as reader-opened}
 use Rattle.writer.specs.Format.{bytes}
 use Rattle.writer.specs.Opened.{opened as writer-opened}
-use Rattle.known.specs.Entry.{Entry, Holds, number-of, gap-of, is-legal, read-told, marks-told, write-told}
-use Rattle.known.specs.Example.{two, with-threads, exchanged, both-ways, row-too-many, place-too-many, written-out}
+use Rattle.known.specs.Entry.{Entry, Holds, same, all-same, by-numbers, number-of, gap-of, is-legal, read-told, marks-told, write-told}
+use Rattle.known.specs.Example.{two, with-threads, exchanged, both-ways, row-too-many, place-too-many, eventful, written-out}
 
 -- Two threads with each number as high, and as low, as it may be; and its bytes.
 abbrev extremes : Table
@@ -30,6 +31,13 @@ different = table-of (1 ∷ []) (task 0 5 10 3 2 7 1 ∷ [])
 
 abbrev different-bytes : List ℕ
 different-bytes = 0x01 ∷ 0x01 ∷ 0x01 ∷ 0x01 ∷ 0x00 ∷ 0x05 ∷ 0x0A ∷ 0x03 ∷ 0x02 ∷ 0x07 ∷ 0x01 ∷ []
+
+-- The bytes of E in version 2, with thread 1 released by events: a kind behind each blocking share, at 12 and at 20.
+abbrev eventful-bytes : List ℕ
+eventful-bytes =
+    0x02 ∷ 0x02 ∷ 0x02 ∷ 0x03 ∷ 0x02
+    ∷ 0x01 ∷ 0x1E ∷ 0x0A ∷ 0x00 ∷ 0x04 ∷ 0x0A ∷ 0x02 ∷ 0x00
+    ∷ 0x00 ∷ 0x14 ∷ 0x0A ∷ 0x00 ∷ 0x03 ∷ 0x0A ∷ 0x00 ∷ 0x01 ∷ []
 
 -- Eight domains, of which 0 flows to 1 and 1 to 2 only; the last row, 128, takes two bytes.
 abbrev eight-rows : List ℕ
@@ -65,8 +73,8 @@ known =
     -- 3: thread 0's period 65,536, and in more than three bytes
     ∷ record { computed = read-told (take 7 example-bytes ++ (0x80 ∷ 0x80 ∷ 0x04 ∷ [])); by-hand = 3 ∷ 7 ∷ [] }
     ∷ record { computed = read-told (take 7 example-bytes ++ (0x80 ∷ 0x80 ∷ 0x80 ∷ 0x01 ∷ [])); by-hand = 3 ∷ 7 ∷ [] }
-    -- 4: version 2 and 0
-    ∷ record { computed = read-told (set example-bytes 0 0x02); by-hand = 4 ∷ 0 ∷ [] }
+    -- 4: version 3 and 0
+    ∷ record { computed = read-told (set example-bytes 0 0x03); by-hand = 4 ∷ 0 ∷ [] }
     ∷ record { computed = read-told (set example-bytes 0 0x00); by-hand = 4 ∷ 0 ∷ [] }
     -- 5: 0 and 17 domains, 0 and 33 threads
     ∷ record { computed = read-told (set example-bytes 1 0x00); by-hand = 5 ∷ 1 ∷ [] }
@@ -111,22 +119,67 @@ known =
     -- 10: the first extra byte
     ∷ record { computed = read-told (example-bytes ++ (0x00 ∷ [])); by-hand = 10 ∷ 19 ∷ [] }
     ∷ record { computed = read-told (example-bytes ++ (0x00 ∷ 0x80 ∷ [])); by-hand = 10 ∷ 19 ∷ [] }
-    -- each number is judged as it is read: version 2 and no more bytes, 0 domains and no more, and a row that lacks its own
-    ∷ record { computed = read-told (0x02 ∷ []); by-hand = 4 ∷ 0 ∷ [] }
+    -- each number is judged as it is read: version 3 and no more bytes, 0 domains and no more, and a row that lacks its own
+    ∷ record { computed = read-told (0x03 ∷ []); by-hand = 4 ∷ 0 ∷ [] }
     ∷ record { computed = read-told (0x01 ∷ 0x00 ∷ []); by-hand = 5 ∷ 1 ∷ [] }
     ∷ record { computed = read-told (0x01 ∷ 0x02 ∷ 0x02 ∷ 0x02 ∷ []); by-hand = 6 ∷ 3 ∷ [] }
-    -- the leftmost fault wins: version 2 with a byte more; thread 0's period 0 with thread 1's priority taken
-    ∷ record { computed = read-told (set example-bytes 0 0x02 ++ (0x00 ∷ [])); by-hand = 4 ∷ 0 ∷ [] }
+    -- the leftmost fault wins: version 3 with a byte more; thread 0's period 0 with thread 1's priority taken
+    ∷ record { computed = read-told (set example-bytes 0 0x03 ++ (0x00 ∷ [])); by-hand = 4 ∷ 0 ∷ [] }
     ∷ record { computed = read-told (set (set example-bytes 7 0x00) 13 0x1E); by-hand = 8 ∷ 7 ∷ [] }
     -- the transitive test follows the last row: rows 3, 6 and then 0, which lacks its own
     ∷ record { computed = read-told (0x01 ∷ 0x03 ∷ 0x01 ∷ 0x03 ∷ 0x06 ∷ 0x00 ∷ []); by-hand = 6 ∷ 5 ∷ [] }
     -- and it goes before the threads: rows 3, 6, 4, then domain 3
     ∷ record { computed = read-told (0x01 ∷ 0x03 ∷ 0x01 ∷ 0x03 ∷ 0x06 ∷ 0x04 ∷ 0x03 ∷ []); by-hand = 7 ∷ 5 ∷ 0 ∷ 1 ∷ 2 ∷ [] }
-    -- a refused reading's table is zero in all 2 + 16 + 32 * 7 numbers: at the first byte, at the last, for a gap and for an extra byte
-    ∷ record { computed = written-out (reading [] .table); by-hand = replicate 242 0 }
-    ∷ record { computed = written-out (reading (take 18 example-bytes) .table); by-hand = replicate 242 0 }
-    ∷ record { computed = written-out (reading eight-rows .table); by-hand = replicate 242 0 }
-    ∷ record { computed = written-out (reading (example-bytes ++ (0x00 ∷ [])) .table); by-hand = replicate 242 0 }
+    -- a refused reading's table is zero in all 3 + 16 + 32 * 8 numbers: at the first byte, at the last, for a gap and for an extra byte
+    ∷ record { computed = written-out (reading [] .table); by-hand = replicate 275 0 }
+    ∷ record { computed = written-out (reading (take 18 example-bytes) .table); by-hand = replicate 275 0 }
+    ∷ record { computed = written-out (reading eight-rows .table); by-hand = replicate 275 0 }
+    ∷ record { computed = written-out (reading (example-bytes ++ (0x00 ∷ [])) .table); by-hand = replicate 275 0 }
+    -- version 2: its bytes, what they are read to, and where they are written
+    ∷ record { computed = bytes eventful; by-hand = eventful-bytes }
+    ∷ record { computed = read-told eventful-bytes; by-hand = 0 ∷ [] }
+    ∷ record {
+      computed = written-out (reading eventful-bytes .table);
+      by-hand = 2 ∷ 2 ∷ 2 ∷ 3 ∷ 2 ∷ (replicate 14 0
+          ++ (1 ∷ 30 ∷ 10 ∷ 0 ∷ 4 ∷ 10 ∷ 2 ∷ 0 ∷ 0 ∷ 20 ∷ 10 ∷ 0 ∷ 3 ∷ 10 ∷ 0 ∷ 1 ∷ replicate 240 0));
+    }
+    ∷ record {
+      computed = write-told (replicate 24 0xFF) 3 eventful;
+      by-hand = 0 ∷ 24 ∷ 0xFF ∷ 0xFF ∷ 0xFF ∷ eventful-bytes;
+    }
+    ∷ record { computed = write-told (replicate 20 0xFF) 0 eventful; by-hand = 16 ∷ replicate 20 0xFF }
+    -- version 2 with periodic threads alone keeps its version; version 1 is read as all periodic
+    ∷ record { computed = read-told (set eventful-bytes 20 0x00); by-hand = 0 ∷ [] }
+    ∷ record { computed = bytes (reading (set eventful-bytes 20 0x00) .table); by-hand = set eventful-bytes 20 0x00 }
+    ∷ record {
+      computed = written-out (reading example-bytes .table);
+      by-hand = 1 ∷ 2 ∷ 2 ∷ 3 ∷ 2 ∷ (replicate 14 0
+          ++ (1 ∷ 30 ∷ 10 ∷ 0 ∷ 4 ∷ 10 ∷ 2 ∷ 0 ∷ 0 ∷ 20 ∷ 10 ∷ 0 ∷ 3 ∷ 10 ∷ 0 ∷ 0 ∷ replicate 240 0));
+    }
+    -- 1 and 10: version 2 without its last kind, with a byte more, and with nothing behind the version
+    ∷ record { computed = read-told (take 20 eventful-bytes); by-hand = 1 ∷ 20 ∷ [] }
+    ∷ record { computed = read-told (eventful-bytes ++ (0x00 ∷ [])); by-hand = 10 ∷ 21 ∷ [] }
+    ∷ record { computed = read-told (0x02 ∷ []); by-hand = 1 ∷ 1 ∷ [] }
+    -- 8: a kind of 2, of thread 0 and of thread 1
+    ∷ record { computed = read-told (set eventful-bytes 12 0x02); by-hand = 8 ∷ 12 ∷ [] }
+    ∷ record { computed = read-told (set eventful-bytes 20 0x02); by-hand = 8 ∷ 20 ∷ [] }
+    -- 8 at the kind and not at the offset: an event thread with an offset of 1; the offset alone passes, and one of P is out of its range
+    ∷ record { computed = read-told (set eventful-bytes 16 0x01); by-hand = 8 ∷ 20 ∷ [] }
+    ∷ record { computed = read-told (set (set eventful-bytes 16 0x01) 20 0x00); by-hand = 0 ∷ [] }
+    ∷ record { computed = read-told (set eventful-bytes 16 0x0A); by-hand = 8 ∷ 16 ∷ [] }
+    -- eight numbers a thread in version 2 and seven in version 1: with the other version thread 1's domain is 20, its budget 0
+    ∷ record { computed = read-told (set example-bytes 0 0x02); by-hand = 8 ∷ 13 ∷ [] }
+    ∷ record { computed = read-told (set eventful-bytes 0 0x01); by-hand = 8 ∷ 16 ∷ [] }
+    -- legal: version 2 with an event thread, and with none
+    ∷ record { computed = map is-legal (eventful ∷ in-version 2 example ∷ []); by-hand = 1 ∷ 1 ∷ [] }
+    -- not legal: version 0 and 3, version 1 with an event thread, a kind of 2, an event thread with an offset, an unused place with a kind
+    ∷ record {
+      computed = map is-legal (in-version 0 example ∷ in-version 3 example ∷ in-version 1 eventful
+          ∷ in-version 2 (two 3 2 upper (thread-of (0 ∷ 20 ∷ 10 ∷ 0 ∷ 3 ∷ 10 ∷ 0 ∷ 2 ∷ [])))
+          ∷ in-version 2 (two 3 2 upper (thread-of (0 ∷ 20 ∷ 10 ∷ 1 ∷ 3 ∷ 10 ∷ 0 ∷ 1 ∷ [])))
+          ∷ in-version 2 (place-too-many (event 0 0 0 0 0 0)) ∷ []);
+      by-hand = replicate 6 0;
+    }
     -- threads stand in any order; two domains need not flow to one another, and may flow both ways
     ∷ record {
       computed = map is-legal (exchanged ∷ two 1 2 upper lower ∷ both-ways ∷ story ∷ []);
@@ -193,5 +246,5 @@ known =
     ∷ []
 
 pub all-bytes : Holds known
-unfolding reader-opened writer-opened
-all-bytes = refl
+unfolding reader-opened writer-opened same all-same
+all-bytes = by-numbers known refl

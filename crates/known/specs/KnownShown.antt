@@ -3,13 +3,13 @@ use mathlib.Core.Path.{refl}
 use mathlib.Core.List.{List, [], _∷_}
 use mathlib.Core.Bool.{true, false}
 use Rattle.example.specs.Example.{example}
-use Rattle.state.specs.State.{no-progress}
+use Rattle.state.specs.State.{no-progress, longest-since}
 use Rattle.state.specs.declared.State.{State}
 use Rattle.walk.specs.declared.Answer.the-variants.{Ran, IdleFor, Idle}
 use Rattle.sight.specs.Opened.{opened as sight-opened}
-use Rattle.known.specs.Entry.{Entry, Holds}
-use Rattle.known.specs.Example.{row-too-many}
-use Rattle.known.specs.Runs.{seen, gap, not-shown, joined, left, places, at, each, shown, shown-state}
+use Rattle.known.specs.Entry.{Entry, Holds, same, all-same, by-numbers}
+use Rattle.known.specs.Example.{row-too-many, eventful}
+use Rattle.known.specs.Runs.{seen, gap, not-shown, joined, left, left-since, places, at, each, shown, shown-state}
 
 -- A state that fits E, and one with a rest above its budget.
 abbrev some : State
@@ -40,6 +40,17 @@ known =
     -- of the state both rests, the mark and the count of each thread whose domain may flow to it, and zeros for the others
     ∷ record { computed = shown-state example some 0; by-hand = 0 ∷ each (places (no-progress ∷ left 1 2 false 2 ∷ [])) }
     ∷ record { computed = shown-state example some 1; by-hand = 0 ∷ each (places (left 2 1 true 1 ∷ left 1 2 false 2 ∷ [])) }
+    -- and 0 for an event thread's steps since release, which follow from the public masks
+    ∷ record {
+      computed = shown-state eventful (at 5 (left 2 1 true 1 ∷ left-since 1 2 false 2 4 ∷ [])) 0;
+      by-hand = 0 ∷ each (places (no-progress ∷ left 1 2 false 2 ∷ []));
+    }
+    ∷ record {
+      computed = shown-state eventful (at 5 (left 2 1 true 1 ∷ left-since 1 2 false 2 4 ∷ [])) 1;
+      by-hand = 0 ∷ each (places (left 2 1 true 1 ∷ left 1 2 false 2 ∷ []));
+    }
+    -- 12: steps since release above P
+    ∷ record { computed = shown-state eventful (at 5 (no-progress ∷ left-since 0 0 false 0 11 ∷ [])) 1; by-hand = 12 ∷ each (places []) }
     -- 11, 12, 15, each with zeros
     ∷ record { computed = shown-state row-too-many some 1; by-hand = 11 ∷ each (places []) }
     ∷ record { computed = shown-state example misfit 1; by-hand = 12 ∷ each (places []) }
@@ -52,5 +63,5 @@ known =
     ∷ []
 
 pub all-shown : Holds known
-unfolding sight-opened
-all-shown = refl
+unfolding sight-opened longest-since same all-same
+all-shown = by-numbers known refl

@@ -7,12 +7,12 @@ use lib.ListN.{replicate}
 use Rattle.table.specs.declared.Table.{Table}
 use Rattle.example.specs.Example.{example, task, upper, lower}
 use Rattle.example.specs.Story.{story}
-use Rattle.state.specs.State.{no-progress, fresh}
+use Rattle.state.specs.State.{no-progress, fresh-given}
 use Rattle.state.specs.declared.State.{State}
 use Rattle.scheduler.specs.Opened.{opened as steps-opened}
-use Rattle.known.specs.Entry.{Entry, Holds}
+use Rattle.known.specs.Entry.{Entry, Holds, same, all-same, by-numbers}
 use Rattle.known.specs.Example.{later, later-short, lower-with, top, two, with-threads, exchanged, both-ways, short-deadlines, row-too-many}
-use Rattle.known.specs.Runs.{ran, idle-for, idle, refused-with, joined, left, at, state, gives, call, answers, state-after}
+use Rattle.known.specs.Runs.{ran, idle-for, idle, refused-with, joined, left, at, state, gives, call, first-call, answers, state-after}
 
 -- Thread 0's rest of 5 is above its budget of 4; the same at the last clock; and a state that fits there.
 abbrev misfit : State
@@ -31,11 +31,11 @@ refusal why t s bs = record { computed = call t s bs; by-hand = gives (refused-w
 abbrev known : List Entry
 known =
     -- phase 0 sets the rest to W and the rest of execution to W - B, of a thread below the chosen one, too; a reached thread that runs pays one, is chosen and counted
-    record { computed = call example fresh (1 ∷ 1 ∷ []); by-hand = gives (ran 0) (at 1 (left 3 1 false 1 ∷ left 3 3 false 0 ∷ [])) }
+    record { computed = first-call example (1 ∷ 1 ∷ []); by-hand = gives (ran 0) (at 1 (left 3 1 false 1 ∷ left 3 3 false 0 ∷ [])) }
     -- a marked thread that waits pays one, is chosen and not counted: the processor idles on its account
-    ∷ record { computed = call example fresh (0 ∷ 1 ∷ []); by-hand = gives (idle-for 0) (at 1 (left 3 2 false 0 ∷ left 3 3 false 0 ∷ [])) }
+    ∷ record { computed = first-call example (0 ∷ 1 ∷ []); by-hand = gives (idle-for 0) (at 1 (left 3 2 false 0 ∷ left 3 3 false 0 ∷ [])) }
     -- finish sets the finish mark, and the thread waits by this byte; it pays one, and the rest stays
-    ∷ record { computed = call example fresh (2 ∷ 1 ∷ []); by-hand = gives (idle-for 0) (at 1 (left 3 2 true 0 ∷ left 3 3 false 0 ∷ [])) }
+    ∷ record { computed = first-call example (2 ∷ 1 ∷ []); by-hand = gives (idle-for 0) (at 1 (left 3 2 true 0 ∷ left 3 3 false 0 ∷ [])) }
     -- a thread whose finish mark was set before waits, whatever it sends
     ∷ record {
       computed = call example (at 1 (left 3 2 true 0 ∷ left 3 3 false 0 ∷ [])) (1 ∷ 1 ∷ []);
@@ -52,38 +52,38 @@ known =
       by-hand = gives (idle-for 0) (at 3 (left 1 0 true 2 ∷ left 3 3 false 0 ∷ []));
     }
     -- bytes 3 and 255 set no mark
-    ∷ record { computed = call example fresh (3 ∷ 1 ∷ []); by-hand = gives (idle-for 0) (at 1 (left 3 2 false 0 ∷ left 3 3 false 0 ∷ [])) }
-    ∷ record { computed = call example fresh (255 ∷ 1 ∷ []); by-hand = gives (idle-for 0) (at 1 (left 3 2 false 0 ∷ left 3 3 false 0 ∷ [])) }
+    ∷ record { computed = first-call example (3 ∷ 1 ∷ []); by-hand = gives (idle-for 0) (at 1 (left 3 2 false 0 ∷ left 3 3 false 0 ∷ [])) }
+    ∷ record { computed = first-call example (255 ∷ 1 ∷ []); by-hand = gives (idle-for 0) (at 1 (left 3 2 false 0 ∷ left 3 3 false 0 ∷ [])) }
     -- and the thread that sent them runs later
     ∷ record { computed = answers example (1 ∷ 3 ∷ 255 ∷ 1 ∷ []); by-hand = joined (ran 0 ∷ idle-for 0 ∷ idle-for 0 ∷ ran 0 ∷ []) }
     ∷ record { computed = answers both-ways (3 ∷ 1 ∷ 255 ∷ 1 ∷ []); by-hand = joined (ran 1 ∷ ran 0 ∷ ran 1 ∷ ran 0 ∷ []) }
     -- threads below the chosen one pay nothing and their bytes are not heard: it runs, or the processor idles on its account
-    ∷ record { computed = call example fresh (1 ∷ 2 ∷ []); by-hand = gives (ran 0) (at 1 (left 3 1 false 1 ∷ left 3 3 false 0 ∷ [])) }
-    ∷ record { computed = call example fresh (0 ∷ 2 ∷ []); by-hand = gives (idle-for 0) (at 1 (left 3 2 false 0 ∷ left 3 3 false 0 ∷ [])) }
+    ∷ record { computed = first-call example (1 ∷ 2 ∷ []); by-hand = gives (ran 0) (at 1 (left 3 1 false 1 ∷ left 3 3 false 0 ∷ [])) }
+    ∷ record { computed = first-call example (0 ∷ 2 ∷ []); by-hand = gives (idle-for 0) (at 1 (left 3 2 false 0 ∷ left 3 3 false 0 ∷ [])) }
     -- a thread whose rest is 0 is passed: it does not pay, and its byte is not heard
     ∷ record {
       computed = call example (at 4 (left 0 1 false 4 ∷ left 3 3 false 0 ∷ [])) (2 ∷ 1 ∷ []);
       by-hand = gives (ran 1) (at 5 (left 0 1 false 4 ∷ left 2 2 false 1 ∷ []));
     }
     -- an unmarked thread that waits pays one, and the walk goes on
-    ∷ record { computed = call both-ways fresh (0 ∷ 1 ∷ []); by-hand = gives (ran 1) (at 1 (left 3 2 false 0 ∷ left 2 2 false 1 ∷ [])) }
+    ∷ record { computed = first-call both-ways (0 ∷ 1 ∷ []); by-hand = gives (ran 1) (at 1 (left 3 2 false 0 ∷ left 2 2 false 1 ∷ [])) }
     -- an unmarked thread that finishes pays one and keeps the rest, and the walk goes on
-    ∷ record { computed = call both-ways fresh (2 ∷ 1 ∷ []); by-hand = gives (ran 1) (at 1 (left 3 2 true 0 ∷ left 2 2 false 1 ∷ [])) }
+    ∷ record { computed = first-call both-ways (2 ∷ 1 ∷ []); by-hand = gives (ran 1) (at 1 (left 3 2 true 0 ∷ left 2 2 false 1 ∷ [])) }
     -- it goes on paying while it waits
     ∷ record {
       computed = call both-ways (at 1 (left 3 2 true 0 ∷ left 2 2 false 1 ∷ [])) (1 ∷ 1 ∷ []);
       by-hand = gives (ran 1) (at 2 (left 2 2 true 0 ∷ left 1 1 false 2 ∷ []));
     }
     -- nobody is chosen: all that were reached have paid, and the processor idles on nobody's account
-    ∷ record { computed = call both-ways fresh (0 ∷ 0 ∷ []); by-hand = gives idle (at 1 (left 3 2 false 0 ∷ left 2 3 false 0 ∷ [])) }
-    ∷ record { computed = call both-ways fresh (2 ∷ 2 ∷ []); by-hand = gives idle (at 1 (left 3 2 true 0 ∷ left 2 3 true 0 ∷ [])) }
+    ∷ record { computed = first-call both-ways (0 ∷ 0 ∷ []); by-hand = gives idle (at 1 (left 3 2 false 0 ∷ left 2 3 false 0 ∷ [])) }
+    ∷ record { computed = first-call both-ways (2 ∷ 2 ∷ []); by-hand = gives idle (at 1 (left 3 2 true 0 ∷ left 2 3 true 0 ∷ [])) }
     ∷ record {
       computed = call example (at 4 (left 0 1 false 4 ∷ left 3 3 false 0 ∷ [])) (1 ∷ 0 ∷ []);
       by-hand = gives idle (at 5 (left 0 1 false 4 ∷ left 2 3 false 0 ∷ []));
     }
     -- an unmarked thread waits, a marked one below it waits: both pay, and the processor idles on the marked one's account
     ∷ record {
-      computed = call (with-threads (top ∷ upper ∷ lower ∷ [])) fresh (0 ∷ 0 ∷ 1 ∷ []);
+      computed = first-call (with-threads (top ∷ upper ∷ lower ∷ [])) (0 ∷ 0 ∷ 1 ∷ []);
       by-hand = gives (idle-for 1) (at 1 (left 1 2 false 0 ∷ left 3 2 false 0 ∷ left 3 3 false 0 ∷ []));
     }
     -- a thread that would run with no execution left waits and pays: marked, the processor idles on its account; else the walk goes on
@@ -105,14 +105,14 @@ known =
       by-hand = joined (replicate 4 (idle-for 0) ++ (replicate 3 (ran 1) ++ replicate 3 idle));
     }
     -- from the highest priority down, threads in any order
-    ∷ record { computed = call exchanged fresh (1 ∷ 1 ∷ []); by-hand = gives (ran 1) (at 1 (left 3 3 false 0 ∷ left 3 1 false 1 ∷ [])) }
+    ∷ record { computed = first-call exchanged (1 ∷ 1 ∷ []); by-hand = gives (ran 1) (at 1 (left 3 3 false 0 ∷ left 3 1 false 1 ∷ [])) }
     ∷ record {
-      computed = call story fresh (1 ∷ 1 ∷ 1 ∷ []);
+      computed = first-call story (1 ∷ 1 ∷ 1 ∷ []);
       by-hand = gives (ran 2) (at 1 (left 3 3 false 0 ∷ left 2 2 false 0 ∷ left 3 0 false 1 ∷ []));
     }
     -- step bytes stand in table order
-    ∷ record { computed = call exchanged fresh (1 ∷ 0 ∷ []); by-hand = gives (idle-for 1) (at 1 (left 3 3 false 0 ∷ left 3 2 false 0 ∷ [])) }
-    ∷ record { computed = call exchanged fresh (0 ∷ 1 ∷ []); by-hand = gives (ran 1) (at 1 (left 3 3 false 0 ∷ left 3 1 false 1 ∷ [])) }
+    ∷ record { computed = first-call exchanged (1 ∷ 0 ∷ []); by-hand = gives (idle-for 1) (at 1 (left 3 3 false 0 ∷ left 3 2 false 0 ∷ [])) }
+    ∷ record { computed = first-call exchanged (0 ∷ 1 ∷ []); by-hand = gives (ran 1) (at 1 (left 3 3 false 0 ∷ left 3 1 false 1 ∷ [])) }
     -- phase 0 sets the rest to W, adds nothing to it, and clears the finish mark; the count stays
     ∷ record {
       computed = call example (at 10 (left 2 0 true 4 ∷ left 1 0 true 3 ∷ [])) (1 ∷ 1 ∷ []);
@@ -165,7 +165,7 @@ known =
       by-hand = gives (ran 0) (at 4 (left 3 1 false 2 ∷ left 2 2 false 1 ∷ []));
     }
     -- before O nothing happens: a thread from a fresh start has no rest
-    ∷ record { computed = call (two 3 2 later lower) fresh (1 ∷ 1 ∷ []); by-hand = gives (ran 1) (at 1 (left 0 0 false 0 ∷ left 2 2 false 1 ∷ [])) }
+    ∷ record { computed = first-call (two 3 2 later lower) (1 ∷ 1 ∷ []); by-hand = gives (ran 1) (at 1 (left 0 0 false 0 ∷ left 2 2 false 1 ∷ [])) }
     -- a state of another table that fits is accepted: E's after its first call, and before O nothing happens to its rest
     ∷ record {
       computed = call (two 3 2 later lower) (at 1 (left 3 1 false 1 ∷ left 3 3 false 0 ∷ [])) (1 ∷ 1 ∷ []);
@@ -183,7 +183,7 @@ known =
     }
     -- a table that is not admitted may still run
     ∷ record {
-      computed = call (two 3 2 upper (lower-with 7)) fresh (1 ∷ 1 ∷ []);
+      computed = first-call (two 3 2 upper (lower-with 7)) (1 ∷ 1 ∷ []);
       by-hand = gives (ran 0) (at 1 (left 3 1 false 1 ∷ left 7 7 false 0 ∷ []));
     }
     -- a state fits with each rest at W, each rest of execution at W - B and each count at the clock
@@ -205,9 +205,9 @@ known =
     ∷ refusal 12 example (at 1 (no-progress ∷ no-progress ∷ left 0 0 false 1 ∷ [])) (1 ∷ 1 ∷ [])
     ∷ refusal 12 example (at 1 (replicate 31 no-progress ++ (left 0 0 true 0 ∷ []))) (1 ∷ 1 ∷ [])
     -- 13: a byte too few, one too many, and none
-    ∷ refusal 13 example fresh (1 ∷ [])
-    ∷ refusal 13 example fresh (1 ∷ 1 ∷ 1 ∷ [])
-    ∷ refusal 13 example fresh []
+    ∷ refusal 13 example (at 0 []) (1 ∷ [])
+    ∷ refusal 13 example (at 0 []) (1 ∷ 1 ∷ 1 ∷ [])
+    ∷ refusal 13 example (at 0 []) []
     -- K-11: clock 999,999,999 steps, to the last clock; 1,000,000,000 gives 14
     ∷ record {
       computed = call example (at 999999999 (left 1 1 false 7 ∷ left 1 1 false 999999999 ∷ [])) (1 ∷ 1 ∷ []);
@@ -219,12 +219,12 @@ known =
     ∷ refusal 12 example misfit (1 ∷ [])
     ∷ refusal 13 example last (1 ∷ [])
     -- 11 before 13 and 14, 12 before 14; and all four faults
-    ∷ refusal 11 row-too-many fresh (1 ∷ [])
+    ∷ refusal 11 row-too-many (at 0 []) (1 ∷ [])
     ∷ refusal 11 row-too-many last (1 ∷ 1 ∷ [])
     ∷ refusal 12 example misfit-last (1 ∷ 1 ∷ [])
     ∷ refusal 11 row-too-many misfit-last (1 ∷ [])
     ∷ []
 
 pub all-steps : Holds known
-unfolding steps-opened
-all-steps = refl
+unfolding steps-opened fresh-given same all-same
+all-steps = by-numbers known refl

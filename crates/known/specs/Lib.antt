@@ -4,5 +4,6 @@ pub mod Runs
 pub mod Known
 pub mod KnownBytes
 pub mod KnownSteps
+pub mod KnownEvents
 pub mod KnownShown
 pub mod KnownBounds

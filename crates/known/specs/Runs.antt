@@ -7,12 +7,13 @@ use Rattle.basis.specs.Tests.{pick}
 use Rattle.basis.specs.Turns.{after}
 use Rattle.table.specs.declared.Table.{Table}
 use Rattle.example.specs.Example.{sent}
-use Rattle.state.specs.State.{no-progress, with-rest, with-execution, with-finished, with-count, fresh}
+use Rattle.state.specs.State.{no-progress, with-rest, with-execution, with-finished, with-count, with-since, starting, fresh-given}
 use Rattle.state.specs.declared.Progress.{Progress}
 use Rattle.state.specs.declared.State.{State}
+use Rattle.walk.specs.Step.{Input, quiet}
 use Rattle.walk.specs.declared.Answer.{Answer}
 use Rattle.scheduler.specs.Taken.{Taken, answer-of, taken}
-use Rattle.scheduler.specs.Calls.{calls}
+use Rattle.scheduler.specs.Calls.{quietly, calls}
 use Rattle.sight.specs.Shown.{showing, showing-state, threads-shown}
 use Rattle.known.specs.Entry.{flat}
 
@@ -48,24 +49,31 @@ abbrev pub joined : List (List ℕ) → List ℕ
 joined [] = []
 joined (x ∷ xs) = x ++ joined xs
 
--- A thread's rest, rest of execution, finish mark and count; a state by its clock and the threads that it begins with, zeros in the
--- other places.
+-- A thread's rest, rest of execution, finish mark and count; and an event thread's, with its steps since release.
 abbrev pub left : ℕ → ℕ → Bool → ℕ → Progress
 left rest execution mark n = with-rest rest (with-execution execution (with-finished mark (with-count n no-progress)))
 
+abbrev pub left-since : ℕ → ℕ → Bool → ℕ → ℕ → Progress
+left-since rest execution mark n since = with-since since (left rest execution mark n)
+
+-- A state by its clock and the threads that it begins with, zeros in the other places.
 abbrev pub places : List Progress → List Progress
 places ps = ps ++ replicate (32 - length ps) no-progress
 
 abbrev pub at : ℕ → List Progress → State
 at c ps = record { clock = c; threads = places ps }
 
--- A state as numbers: the clock, and both rests, the mark and the count of each of the 32 places.
+-- A state as numbers: the clock, and both rests, the mark, the count and the steps since release of each of the 32 places.
 abbrev pub each : List Progress → List ℕ
 each [] = []
-each (p ∷ ps) = p .rest ∷ p .execution ∷ pick (p .finished) 1 0 ∷ p .ran ∷ each ps
+each (p ∷ ps) = p .rest ∷ p .execution ∷ pick (p .finished) 1 0 ∷ p .ran ∷ p .since ∷ each ps
 
 abbrev pub state : State → List ℕ
 state s = s .clock ∷ each (s .threads)
+
+-- What `fresh` tells of a table, and then its state.
+abbrev pub fresh-told : Table → List ℕ
+fresh-told t = flat (starting t) ++ state (fresh-given t)
 
 -- What one call gives: its number and values, and the state that it hands back.
 abbrev pub gives : List ℕ → State → List ℕ
@@ -74,22 +82,40 @@ gives answer s = answer ++ state s
 abbrev of-taken : Taken → List ℕ
 of-taken r = gives (flat (r .told)) (r .state)
 
-abbrev pub call : Table → State → List ℕ → List ℕ
-call t s bs = of-taken (taken t bs s)
+-- Bytes, with a mask of events.
+abbrev pub with-mask : List ℕ → ℕ → Input
+with-mask bs mask = record { mask = mask; bytes = bs }
 
--- The answers of a run of calls from a fresh start, thread 0 sending these bytes and thread 1 always 1; and the state after them.
+-- A call with a mask of events; without an event; and without one from a fresh start.
+abbrev pub call-with : Table → State → ℕ → List ℕ → List ℕ
+call-with t s mask bs = of-taken (taken t (with-mask bs mask) s)
+
+abbrev pub call : Table → State → List ℕ → List ℕ
+call t s bs = of-taken (taken t (quiet bs) s)
+
+abbrev pub first-call : Table → List ℕ → List ℕ
+first-call t bs = call t (fresh-given t) bs
+
+-- The answers of a run of calls from a fresh start, and the state after them.
+abbrev pub answers-of : Table → List Input → List ℕ
+answers-of t xs = joined (map (λ (r : Taken). flat (r .told)) (calls t xs (fresh-given t)))
+
+abbrev pub state-of : Table → List Input → List ℕ
+state-of t xs = state (after (taken t) (λ (r : Taken). r .state) xs (fresh-given t))
+
+-- The same without an event, thread 0 sending these bytes and thread 1 always 1.
 abbrev pub answers : Table → List ℕ → List ℕ
-answers t bs = joined (map (λ (r : Taken). flat (r .told)) (calls t (sent bs) fresh))
+answers t bs = answers-of t (quietly (sent bs))
 
 abbrev pub state-after : Table → List ℕ → List ℕ
-state-after t bs = state (after (taken t) (λ (r : Taken). r .state) (sent bs) fresh)
+state-after t bs = state-of t (quietly (sent bs))
 
 -- What a domain is shown of an answer; of each call of such a run; and of a state.
 abbrev pub shown : Table → ℕ → Answer → List ℕ
 shown t d a = showing t d a .number ∷ or-256 (showing t d a .values)
 
 abbrev pub shown-to : Table → ℕ → List ℕ → List ℕ
-shown-to t d bs = joined (map (λ (r : Taken). shown t d (answer-of (r .told .values))) (calls t (sent bs) fresh))
+shown-to t d bs = joined (map (λ (r : Taken). shown t d (answer-of (r .told .values))) (calls t (quietly (sent bs)) (fresh-given t)))
 
 abbrev pub shown-state : Table → State → ℕ → List ℕ
 shown-state t s d = flat (showing-state t s d) ++ each (threads-shown t s d)

@@ -12,10 +12,10 @@ fn example() -> Table {
     r.table
 }
 
-// The number that a step of example E from this state is refused with, both threads sending 1 (0: it is taken).
+// The number that a step of example E from this state is refused with, without an event and both threads sending 1 (0: it is taken).
 fn refusal(s: State) -> u8 {
     let t = example();
-    let r = scheduler::step(t, s, b"\x01\x01");
+    let r = scheduler::step(t, s, 0, b"\x01\x01");
     let o = r.outcome;
     match o {
         Outcome::Chose(_) => 0,
@@ -23,9 +23,10 @@ fn refusal(s: State) -> u8 {
     }
 }
 
-// A fresh state but for its clock.
+// A fresh state of example E but for its clock.
 fn late(clock: u32) -> State {
-    let mut s = scheduler::fresh();
+    let r = scheduler::fresh(example());
+    let mut s = r.state;
     s.clock = clock;
     s
 }

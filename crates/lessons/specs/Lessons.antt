@@ -1,5 +1,6 @@
 -- Demand 3 for a class: one rule is changed, and a domain learns what it must not. In each lesson two runs differ in the bytes of
--- threads hidden from a domain only, and the claims compute what that domain is told of each step.
+-- threads hidden from a domain only, and the claims compute what that domain is told of each step. In the last one no rule is
+-- changed: whoever makes the masks tells what is hidden.
 use Prim.Native.Nat.{ℕ, zero, suc, _+_}
 use mathlib.Core.Path.{_≡_, refl}
 use mathlib.Core.List.{List, [], _∷_, _++_, map}
@@ -15,29 +16,30 @@ use Rattle.table.specs.Mark.{seen-by, mark, marks-of, is-set}
 use Rattle.table.specs.declared.Mark.{Mark}
 use Rattle.table.specs.declared.Table.{Table}
 use Rattle.table.specs.declared.Thread.{Thread}
-use Rattle.example.specs.Example.{table-of, task}
-use Rattle.state.specs.State.{with-rest, with-execution, with-finished, execution-budget, progress, put, fits, fresh}
-use Rattle.state.specs.Release.{released, release, releases}
+use Rattle.example.specs.Example.{table-of, task, event, in-version}
+use Rattle.state.specs.State.{with-rest, progress, each-thread, fits, fresh}
+use Rattle.state.specs.Release.{has-event, refilled, released, release, releases}
 use Rattle.state.specs.Methods.{pay, count}
 use Rattle.state.specs.declared.Progress.{Progress}
 use Rattle.state.specs.declared.State.{State}
 use Rattle.order.specs.Order.{down, order}
 use Rattle.walk.specs.Walk.{heard, runs, walked, decided, visit, chosen, walk}
-use Rattle.walk.specs.Step.{ticked, advance, step}
+use Rattle.walk.specs.Step.{Input, ticked, advance, step}
 use Rattle.walk.specs.declared.Answer.{Answer}
 use Rattle.walk.specs.declared.Answer.the-variants.{Ran, IdleFor, Idle}
 use Rattle.walk.specs.declared.Walked.{Walked}
 use Rattle.scheduler.specs.Taken.{Taken, took, refused-step, answer-of, taken}
+use Rattle.scheduler.specs.Calls.{quietly}
 use Rattle.scheduler.specs.Opened.{opened as steps-opened}
 use Rattle.sight.specs.Shown.{visible, view}
 use Rattle.sight.specs.Opened.{opened as sight-opened}
 
 -- What a call of the step gives, by the right rules (`taken`) or by others.
 abbrev pub Call : Type 0
-Call = Table → List ℕ → State → Taken
+Call = Table → Input → State → Taken
 
 -- What each call gives, in turn.
-abbrev pub run : (List ℕ → State → Taken) → List (List ℕ) → State → List Taken
+abbrev pub run : (Input → State → Taken) → List Input → State → List Taken
 run f a s = in-turn f (λ (r : Taken). r .state) a s
 
 -- What d is told of a call: the number that refuses it, or what d is shown of its answer.
@@ -45,17 +47,17 @@ unfoldable pub tells : Table → ℕ → Told → Told
 tells t d r = pick (eqb (r .number) 0) (view t d (answer-of (r .values))) r
 
 -- What d is told of each call of a run from a fresh start. To open it is to open all that a run computes with.
-unfoldable pub trace : Call → Table → ℕ → List (List ℕ) → List Told
+unfoldable pub trace : Call → Table → ℕ → List Input → List Told
 unfolding steps-opened sight-opened tells
-trace f t d a = map (λ (r : Taken). tells t d (r .told)) (run (f t) a fresh)
+trace f t d a = map (λ (r : Taken). tells t d (r .told)) (run (f t) a (fresh t))
 
 -- A call with f for the step, of a table that nobody tests: a state that does not fit is refused.
-unfoldable pub call : (Table → List ℕ → State → Walked) → Call
-call f t bs s = pick (fits t s) (took (f t bs s)) (refused-step 12 s)
+unfoldable pub call : (Table → Input → State → Walked) → Call
+call f t x s = pick (fits t s) (took (f t x s)) (refused-step 12 s)
 
 -- The step with other marks.
-unfoldable pub marking : (Table → List Mark) → Table → List ℕ → State → Walked
-marking m t bs s = advance t (m t) (order t) bs s
+unfoldable pub marking : (Table → List Mark) → Table → Input → State → Walked
+marking m t x s = advance t (m t) (order t) x s
 
 -- The walk with v for the visit, and the step with that walk.
 unfoldable pub walk-by : (ℕ → ℕ → State → Walked) → List ℕ → List ℕ → State → Walked
@@ -63,8 +65,8 @@ walk-by v bs [] s = walked Idle s
 walk-by v bs (i ∷ is) s =
     pick (chosen (v (getD bs i 0) i s .answer)) (v (getD bs i 0) i s) (walk-by v bs is (v (getD bs i 0) i s .state))
 
-unfoldable pub visiting : (List Mark → ℕ → ℕ → State → Walked) → Table → List ℕ → State → Walked
-visiting v t bs s = ticked (walk-by (v (marks-of t)) bs (order t) (release t (t .count) s))
+unfoldable pub visiting : (List Mark → ℕ → ℕ → State → Walked) → Table → Input → State → Walked
+visiting v t x s = ticked t (walk-by (v (marks-of t)) (x .bytes) (order t) (release t (x .mask) s))
 
 -- With the right visit it is the step.
 walk-same : (m : List Mark) (bs is : List ℕ) (s : State) → walk-by (visit m) bs is s ≡ walk m bs is s
@@ -72,9 +74,9 @@ unfolding walk-by walk
 walk-same m bs [] s = refl
 walk-same m bs (i ∷ is) s = rw (walk-same m bs is)
 
-pub visiting-same : (t : Table) (bs : List ℕ) (s : State) → visiting visit t bs s ≡ step t bs s
+pub visiting-same : (t : Table) (x : Input) (s : State) → visiting visit t x s ≡ step t x s
 unfolding visiting step advance
-visiting-same t bs s = rw (walk-same (marks-of t))
+visiting-same t x s = rw (walk-same (marks-of t))
 
 -- A thread of a domain, with a priority, a period and a budget; its offset is 0 and its deadline the period.
 abbrev plain : ℕ → ℕ → ℕ → ℕ → Thread
@@ -84,7 +86,7 @@ plain d p period w = task d p period 0 w period 0
 abbrev private-above : Table
 private-above = table-of (3 ∷ 2 ∷ []) (plain 1 30 4 2 ∷ plain 0 20 4 1 ∷ [])
 
--- A lesson: the call with one rule changed, a domain of a table, and two lists of steps that differ in what is hidden from it.
+-- A lesson: the call with one rule changed, a domain of a table, and the bytes of two lists of steps that differ in what is hidden from it.
 pub record Lesson : Type 0 where
   pub changed : Call
   pub table : Table
@@ -92,9 +94,9 @@ pub record Lesson : Type 0 where
   pub one : List (List ℕ)
   pub other : List (List ℕ)
 
--- What the domain is told of the two runs.
+-- What the domain is told of the two runs; no step has an event.
 abbrev pub told-by : Call → Lesson → List (List Told)
-told-by f l = trace f (l .table) (l .domain) (l .one) ∷ trace f (l .table) (l .domain) (l .other) ∷ []
+told-by f l = trace f (l .table) (l .domain) (quietly (l .one)) ∷ trace f (l .table) (l .domain) (quietly (l .other)) ∷ []
 
 abbrev twice : List Told → List (List Told)
 twice x = x ∷ x ∷ []
@@ -197,8 +199,8 @@ nobody (Ran i) = Ran i
 nobody (IdleFor i) = Idle
 nobody Idle = Idle
 
-unfoldable pub on-nobody : (Table → List ℕ → State → Walked) → Table → List ℕ → State → Walked
-on-nobody f t bs s = walked (nobody (f t bs s .answer)) (f t bs s .state)
+unfoldable pub on-nobody : (Table → Input → State → Walked) → Table → Input → State → Walked
+on-nobody f t x s = walked (nobody (f t x s .answer)) (f t x s .state)
 
 abbrev nobody-pays : Lesson
 nobody-pays = seen-from-below (call (on-nobody (visiting (paying free pay))))
@@ -222,14 +224,12 @@ handed-down-leaks = refl
 -- f. A release adds W to the rest. Where thread 1 runs, thread 2 keeps its budget of 1 and is given another; a rest of 2 does not fit,
 -- and everyone is refused with 12. (`payments-most` shuts this out as well: a thread pays at most W from release to release.)
 unfoldable pub refill : Table → ℕ → State → State
-refill t zero s = s
-refill t (suc n) s =
-    let p : Progress = progress s n in
-    let full : Progress = with-finished false (with-execution (execution-budget (thread t n)) (with-rest (p .rest + thread t n .budget) p)) in
-    put (refill t n s) n (pick (releases t n (s .clock)) full (released (thread t n) (s .clock) p))
+refill t mask s =
+    each-thread (λ i p. pick (releases t i mask s) (with-rest (p .rest + thread t i .budget) (refilled (thread t i) p))
+    (released (thread t i) (s .clock) (has-event mask i) p)) (t .count) s
 
-unfoldable pub refilling : Table → List ℕ → State → Walked
-refilling t bs s = ticked (walk (marks-of t) bs (order t) (refill t (t .count) s))
+unfoldable pub refilling : Table → Input → State → Walked
+refilling t x s = ticked t (walk (marks-of t) (x .bytes) (order t) (refill t (x .mask) s))
 
 abbrev added : Lesson
 added = record {
@@ -246,7 +246,7 @@ added-leaks = refl
 
 -- g. A strange byte is refused. A private thread then stops everyone (`same-refusal` says that no byte's value does).
 unfoldable pub refusing-strange : Call
-refusing-strange t bs s = pick (some (t .count) (λ i. ltb 2 (getD bs i 0))) (refused-step 13 s) (taken t bs s)
+refusing-strange t x s = pick (some (t .count) (λ i. ltb 2 (getD (x .bytes) i 0))) (refused-step 13 s) (taken t x s)
 
 abbrev strange-byte : Lesson
 strange-byte = record {
@@ -321,8 +321,8 @@ unfoldable pub hear-all : List ℕ → ℕ → State → State
 hear-all bs zero s = s
 hear-all bs (suc n) s = heard (getD bs n 0) n (hear-all bs n s)
 
-unfoldable pub hearing-all : Table → List ℕ → State → Walked
-hearing-all t bs s = ticked (walk (marks-of t) bs (order t) (hear-all bs (t .count) (release t (t .count) s)))
+unfoldable pub hearing-all : Table → Input → State → Walked
+hearing-all t x s = ticked t (walk (marks-of t) (x .bytes) (order t) (hear-all (x .bytes) (t .count) (release t (x .mask) s)))
 
 abbrev heard-unreached : Lesson
 heard-unreached = record {
@@ -371,3 +371,39 @@ differ-hidden t d (bs ∷ us) (cs ∷ vs) =
 pub hidden-only : map (λ (l : Lesson). differ-hidden (l .table) (l .domain) (l .one) (l .other)) (leaks ++ passes) ≡ replicate 12 true
 unfolding differ-hidden
 hidden-only = refl
+
+-- i. A mask is made of what a hidden thread's byte decides. No rule is changed, and none could help: the mask is public, so that demand 3
+-- takes equal masks in both runs. Thread 1 is released by events, and stands below a private thread.
+abbrev woken : Table
+woken = in-version 2 (table-of (3 ∷ 2 ∷ []) (plain 1 30 4 2 ∷ event 0 20 4 1 4 0 ∷ []))
+
+-- Steps with these bytes, each with the mask that the environment makes of them.
+abbrev made-by : (List ℕ → ℕ) → List (List ℕ) → List Input
+made-by e a = map (λ (bs : List ℕ). record { mask = e bs; bytes = bs }) a
+
+-- What domain 0 is told by the right rules where thread 0 runs, and where it waits.
+abbrev told-under : (List ℕ → ℕ) → List (List Told)
+told-under e = trace taken woken 0 (made-by e running) ∷ trace taken woken 0 (made-by e waiting) ∷ []
+
+-- An event for thread 1 where thread i sends 1, and none where it does not.
+abbrev where-runs : ℕ → List ℕ → ℕ
+where-runs i bs = pick (eqb (getD bs i 0) 1) 2 0
+
+-- An event for thread 1 at every step.
+abbrev whatever-comes : List ℕ → ℕ
+whatever-comes bs = 2
+
+-- The two runs differ in thread 0's byte only, which domain 0 may not see.
+pub woken-hidden-only : differ-hidden woken 0 running waiting ≡ true
+unfolding differ-hidden
+woken-hidden-only = refl
+
+-- Of the hidden byte: where thread 0 waits no event comes, and thread 1 never starts.
+pub hidden-mask-leaks : told-under (where-runs 0) ≡ (gap ∷ gap ∷ shown 1 ∷ []) ∷ (gap ∷ gap ∷ gap ∷ []) ∷ []
+unfolding trace
+hidden-mask-leaks = refl
+
+-- Of nothing that a thread sends, or of the byte of thread 1, which every domain may see: the masks are equal, and so is what is told.
+pub public-mask-same : map told-under (whatever-comes ∷ where-runs 1 ∷ []) ≡ replicate 2 (twice (gap ∷ gap ∷ shown 1 ∷ []))
+unfolding trace
+public-mask-same = refl

@@ -12,6 +12,7 @@ use Rattle.table.specs.Mark.{mark, marks-of}
 use Rattle.example.specs.Story.{story, monitor-sends}
 use Rattle.state.specs.State.{fresh}
 use Rattle.scheduler.specs.Taken.{Taken, values, taken}
+use Rattle.scheduler.specs.Calls.{quietly}
 use Rattle.lessons.specs.Lessons.{Call, run, trace, call, marking, no-marks, gap, shown}
 use Rattle.walk.specs.declared.Answer.{Answer}
 use Rattle.walk.specs.declared.Answer.the-variants.{Ran, IdleFor, Idle}
@@ -37,10 +38,10 @@ never = replicate 10 0
 
 -- What a run with these bytes of the monitor answers, and what the pitch loop's domain is told of it.
 abbrev answers : Call → List ℕ → List Told
-answers f xs = map (λ (r : Taken). r .told) (run (f story) (monitor-sends xs) fresh)
+answers f xs = map (λ (r : Taken). r .told) (run (f story) (quietly (monitor-sends xs)) (fresh story))
 
 abbrev pitch-told : Call → List ℕ → List Told
-pitch-told f xs = trace f story 0 (monitor-sends xs)
+pitch-told f xs = trace f story 0 (quietly (monitor-sends xs))
 
 -- It is shown its own thread three times, from clock n on.
 abbrev from-clock : ℕ → List Told

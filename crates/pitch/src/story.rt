@@ -65,13 +65,14 @@ fn say_step(clock: u64, r: Driven) {
 
 fn turn(t: Table, s: State, a: Actuator, clock: u64) -> Driven {
     let bytes = [1, 1, monitor_sends(clock)];
-    actuator::drive(t, s, a, &bytes, wanted(clock))
+    actuator::drive(t, s, a, 0, &bytes, wanted(clock))
 }
 
 // Three periods, at most 0.25 degrees a step.
 pub fn tell() {
     let t = story();
-    let mut s = scheduler::fresh();
+    let started = scheduler::fresh(t);
+    let mut s = started.state;
     let mut a = actuator::start(0, 250, 0);
     let mut clock: u64 = 0;
     while clock < 30 {

@@ -9,8 +9,8 @@ use Rattle.basis.specs.Search.{Sought, nothing, found}
 use Rattle.basis.specs.Told.{Told, answered}
 use Rattle.flow.specs.Flow.{row-ok}
 use Rattle.flow.specs.Gap.{Triple, first-gap}
-use Rattle.table.specs.Threads.{field-count, thread-of, none}
-use Rattle.table.specs.Ranges.{range, within, domain-counts, thread-counts, field-range}
+use Rattle.table.specs.Threads.{field-count, fields-in, thread-of, none}
+use Rattle.table.specs.Ranges.{within, versions, domain-counts, thread-counts, field-range}
 use Rattle.table.specs.Legal.{taken}
 use Rattle.table.specs.declared.Range.{Range}
 use Rattle.table.specs.declared.Table.{Table}
@@ -66,30 +66,30 @@ rows-from s d c (suc i) = put-row i (rows-from s d c i .rows) (row-from s d i (r
 unfoldable pub free : List Thread → ℕ → ℕ → ℕ → Bool
 free ths i k v = or (not (eqb k 1)) (not (taken ths i v))
 
--- Field k of thread i, after the threads and the fields vs before it: its range (8), then whether it is taken (9).
-unfoldable pub field-from : List ℕ → ℕ → List Thread → ℕ → List ℕ → ℕ → Cursor → Cursor
-field-from s d ths i vs k c =
-    judged (ranged s c (field-range d vs k) 8) (free ths i k (ranged s c (field-range d vs k) 8 .value)) 9
+-- Field k of thread i, in version v, after the threads and the fields vs before it: its range (8), then whether it is taken (9).
+unfoldable pub field-from : List ℕ → ℕ → ℕ → List Thread → ℕ → List ℕ → ℕ → Cursor → Cursor
+field-from s v d ths i vs k c =
+    judged (ranged s c (field-range v d vs k) 8) (free ths i k (ranged s c (field-range v d vs k) 8 .value)) 9
 
 abbrev pub put-field : ℕ → List ℕ → Cursor → FieldsRead
 put-field k vs c = record { cursor = c; fields = set vs k (c .value) }
 
--- The first n fields of thread i.
-unfoldable pub fields-from : List ℕ → ℕ → List Thread → ℕ → Cursor → ℕ → FieldsRead
-fields-from s d ths i c zero = record { cursor = c; fields = replicate field-count 0 }
-fields-from s d ths i c (suc k) =
-    put-field k (fields-from s d ths i c k .fields)
-    (field-from s d ths i (fields-from s d ths i c k .fields) k (fields-from s d ths i c k .cursor))
+-- The first n fields of thread i; a field that was not read is 0.
+unfoldable pub fields-from : List ℕ → ℕ → ℕ → List Thread → ℕ → Cursor → ℕ → FieldsRead
+fields-from s v d ths i c zero = record { cursor = c; fields = replicate field-count 0 }
+fields-from s v d ths i c (suc k) =
+    put-field k (fields-from s v d ths i c k .fields)
+    (field-from s v d ths i (fields-from s v d ths i c k .fields) k (fields-from s v d ths i c k .cursor))
 
 abbrev pub put-thread : ℕ → List Thread → FieldsRead → ThreadsRead
 put-thread i ths f = record { cursor = f .cursor; threads = set ths i (thread-of (f .fields)) }
 
--- The first n threads.
-unfoldable pub threads-from : List ℕ → ℕ → Cursor → ℕ → ThreadsRead
-threads-from s d c zero = record { cursor = c; threads = replicate 32 none }
-threads-from s d c (suc i) =
-    put-thread i (threads-from s d c i .threads)
-    (fields-from s d (threads-from s d c i .threads) i (threads-from s d c i .cursor) field-count)
+-- The first n threads, each by the fields that stand in the bytes of version v.
+unfoldable pub threads-from : List ℕ → ℕ → ℕ → Cursor → ℕ → ThreadsRead
+threads-from s v d c zero = record { cursor = c; threads = replicate 32 none }
+threads-from s v d c (suc i) =
+    put-thread i (threads-from s v d c i .threads)
+    (fields-from s v d (threads-from s v d c i .threads) i (threads-from s v d c i .cursor) (fields-in v))
 
 -- What reading gives: the number with its values, and the table, which is all zero on a refusal.
 pub record Read : Type 0 where
@@ -97,7 +97,7 @@ pub record Read : Type 0 where
   pub table : Table
 
 abbrev pub no-table : Table
-no-table = record { domains = 0; count = 0; rows = replicate 16 0; threads = replicate 32 none }
+no-table = record { version = 0; domains = 0; count = 0; rows = replicate 16 0; threads = replicate 32 none }
 
 abbrev pub accepted : Table → Read
 accepted t = record { told = answered []; table = t }
@@ -111,11 +111,11 @@ abbrev pub gapped-at : ℕ → Triple → Read
 gapped-at place g = record { told = record { number = 7; values = place ∷ g .a ∷ g .b ∷ g .c ∷ [] }; table = no-table }
 
 -- After the last thread: 10 at the first extra byte.
-unfoldable pub ended : List ℕ → ℕ → ℕ → List ℕ → ThreadsRead → Read
-ended s d n rows t =
+unfoldable pub ended : List ℕ → ℕ → ℕ → ℕ → List ℕ → ThreadsRead → Read
+ended s v d n rows t =
     pick (eqb (t .cursor .refusal) 0)
     (pick (ltb (t .cursor .next) (length s)) (refused-at 10 (t .cursor .next))
-    (accepted (record { domains = d; count = n; rows = rows; threads = t .threads })))
+    (accepted (record { version = v; domains = d; count = n; rows = rows; threads = t .threads })))
     (refused-at (t .cursor .refusal) (t .cursor .start))
 
 -- After the last row: 7 with the start of the last row, or what follows.
@@ -123,15 +123,15 @@ abbrev pub whole-or-gap : ℕ → Sought Triple → Read → Read
 whole-or-gap place nothing r = r
 whole-or-gap place (found g) r = gapped-at place g
 
-unfoldable pub after-rows : List ℕ → ℕ → ℕ → RowsRead → Read
-after-rows s d n r =
+unfoldable pub after-rows : List ℕ → ℕ → ℕ → ℕ → RowsRead → Read
+after-rows s v d n r =
     pick (eqb (r .cursor .refusal) 0)
-    (whole-or-gap (r .cursor .start) (first-gap (r .rows) d) (ended s d n (r .rows) (threads-from s d (r .cursor) n)))
+    (whole-or-gap (r .cursor .start) (first-gap (r .rows) d) (ended s v d n (r .rows) (threads-from s v d (r .cursor) n)))
     (refused-at (r .cursor .refusal) (r .cursor .start))
 
--- Version is 1.
+-- Version is 1 or 2.
 unfoldable pub version-from : List ℕ → Cursor
-version-from s = ranged s (good 0 0 0) (range 1 2) 4
+version-from s = ranged s (good 0 0 0) versions 4
 
 unfoldable pub domains-from : List ℕ → Cursor
 domains-from s = ranged s (version-from s) domain-counts 5
@@ -141,7 +141,7 @@ count-from s = ranged s (domains-from s) thread-counts 5
 
 unfoldable pub reading : List ℕ → Read
 reading s =
-    after-rows s (domains-from s .value) (count-from s .value)
+    after-rows s (version-from s .value) (domains-from s .value) (count-from s .value)
     (rows-from s (domains-from s .value) (count-from s) (domains-from s .value))
 
 -- Document 01's number and values of a verdict.

@@ -62,9 +62,10 @@ pub fn read(s: &[u8]) -> Reading
         next: 0,
         value: 0,
     };
-    let v = read_ranged(s, from, Range { low: 1, below: 2 }, 4);
+    let v = read_ranged(s, from, Range { low: 1, below: 3 }, 4);
     let d = read_ranged(s, v, Range { low: 1, below: 17 }, 5);
     let n = read_ranged(s, d, Range { low: 1, below: 33 }, 5);
+    let version = v.value as u8;
     let domains = d.value as u8;
     let count = n.value as u8;
     let r = read_rows(s, domains, n);
@@ -82,5 +83,5 @@ pub fn read(s: &[u8]) -> Reading
             c,
         });
     }
-    read_rest(s, domains, count, rows, after)
+    read_rest(s, version, domains, count, rows, after)
 }

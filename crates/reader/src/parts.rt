@@ -1,7 +1,7 @@
 // The parts of a table, each read with the cursor: rows, fields, threads, the end.
 ghost use mathlib.Core.Path.{_≡_};
 ghost use Prim.Native.Nat.{_≤_};
-ghost use Rattle.table.specs.Threads.{field-count};
+ghost use Rattle.table.specs.Threads.{fields-in};
 ghost use Rattle.reader.specs.Reader.{row-from, rows-from, free, field-from, fields-from, threads-from, no-table, ended, read-of, told};
 use super::Cursor;
 use super::FieldsRead;
@@ -17,6 +17,7 @@ use table::FIELDS;
 use table::Table;
 use table::Thread;
 use table::field_range;
+use table::fields_in;
 use table::is_taken;
 use table::make_thread;
 use table::no_thread;
@@ -55,6 +56,7 @@ fn is_free(threads: [Thread; 32], i: u8, k: u8, v: u16) -> bool
 
 fn read_field(
     s: &[u8],
+    version: u8,
     domains: u8,
     threads: [Thread; 32],
     i: u8,
@@ -63,36 +65,44 @@ fn read_field(
     c: Cursor,
 ) -> Cursor
     requires { ⌜ i ≤ 32 ⌝ }
-    ensures { λ r. ⌜ r ≡ field-from (now (s .entry)) domains threads i fields k c ⌝ }
+    ensures { λ r. ⌜ r ≡ field-from (now (s .entry)) version domains threads i fields k c ⌝ }
 {
-    let range = field_range(domains, fields, k);
+    let range = field_range(version, domains, fields, k);
     let f = read_ranged(s, c, range, 8);
     let ok = is_free(threads, i, k, f.value);
     judge(f, ok, 9)
 }
 
-fn read_fields(s: &[u8], domains: u8, threads: [Thread; 32], i: u8, c: Cursor) -> FieldsRead
+fn read_fields(
+    s: &[u8],
+    version: u8,
+    domains: u8,
+    threads: [Thread; 32],
+    i: u8,
+    c: Cursor,
+) -> FieldsRead
     requires { ⌜ i ≤ 32 ⌝ }
-    ensures { λ r. ⌜ r ≡ fields-from (now (s .entry)) domains threads i c field-count ⌝ }
+    ensures { λ r. ⌜ r ≡ fields-from (now (s .entry)) version domains threads i c (fields-in version) ⌝ }
 {
     let mut fields = [0u16; FIELDS];
+    let n = fields_in(version);
     let mut at = c;
-    for k in 0..FIELDS as u8 {
-        at = read_field(s, domains, threads, i, fields, k, at);
+    for k in 0..n {
+        at = read_field(s, version, domains, threads, i, fields, k, at);
         fields[k as usize] = at.value;
     }
     FieldsRead { cursor: at, fields }
 }
 
-fn read_threads(s: &[u8], domains: u8, c: Cursor, count: u8) -> ThreadsRead
+fn read_threads(s: &[u8], version: u8, domains: u8, c: Cursor, count: u8) -> ThreadsRead
     requires { ⌜ count ≤ 32 ⌝ }
-    ensures { λ r. ⌜ r ≡ threads-from (now (s .entry)) domains c count ⌝ }
+    ensures { λ r. ⌜ r ≡ threads-from (now (s .entry)) version domains c count ⌝ }
 {
     let z = no_thread();
     let mut threads = [z; 32];
     let mut k = c;
     for i in 0..count {
-        let r = read_fields(s, domains, threads, i, k);
+        let r = read_fields(s, version, domains, threads, i, k);
         let fields = r.fields;
         k = r.cursor;
         threads[i as usize] = make_thread(fields);
@@ -107,6 +117,7 @@ pub fn refused_reading(verdict: Verdict) -> Reading
     Reading {
         verdict,
         table: Table {
+            version: 0,
             domains: 0,
             count: 0,
             rows: [0u16; 16],
@@ -116,11 +127,18 @@ pub fn refused_reading(verdict: Verdict) -> Reading
 }
 
 // The threads, and the end of the bytes.
-pub fn read_rest(s: &[u8], domains: u8, count: u8, rows: [u16; 16], c: Cursor) -> Reading
+pub fn read_rest(
+    s: &[u8],
+    version: u8,
+    domains: u8,
+    count: u8,
+    rows: [u16; 16],
+    c: Cursor,
+) -> Reading
     requires { ⌜ count ≤ 32 ⌝ }
-    ensures { λ r. ⌜ read-of r ≡ ended (now (s .entry)) domains count rows (threads-from (now (s .entry)) domains c count) ⌝ }
+    ensures { λ r. ⌜ read-of r ≡ ended (now (s .entry)) version domains count rows (threads-from (now (s .entry)) version domains c count) ⌝ }
 {
-    let t = read_threads(s, domains, c, count);
+    let t = read_threads(s, version, domains, c, count);
     let threads = t.threads;
     let after = t.cursor;
     if after.refusal != 0 {
@@ -132,6 +150,7 @@ pub fn read_rest(s: &[u8], domains: u8, count: u8, rows: [u16; 16], c: Cursor) -
     Reading {
         verdict: Verdict::Accepted,
         table: Table {
+            version,
             domains,
             count,
             rows,

@@ -37,7 +37,7 @@ fn play_table(tally: &mut Tally, seed: u64) {
     count(tally, bout_bytes::written(part(seed, 1), t));
     for kind in 0..10u16 {
         let own = part(seed, kind as u32 + 10);
-        let bad = spoil::table(own, t, below32(own, 4, 8));
+        let bad = spoil::table(own, t, below32(own, 4, spoil::KINDS));
         read_one(tally, own, t, kind);
         if seldom(own, 5, 2) {
             read_one(tally, own, bad, 0);

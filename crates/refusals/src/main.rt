@@ -4,6 +4,7 @@ use example::example;
 use reader::Verdict;
 use scheduler::Answer;
 use scheduler::Outcome;
+use scheduler::Starting;
 use scheduler::State;
 use sight::View;
 use table::Marking;
@@ -16,19 +17,43 @@ fn no_table() -> Table {
     r.table
 }
 
+// Example E in version 2, with thread 1 released by events.
+fn waking() -> Table {
+    let mut t = example();
+    let mut f = t.threads[1];
+    f.kind = 1;
+    t.version = 2;
+    t.threads[1] = f;
+    t
+}
+
+fn fresh(t: Table) -> State {
+    let r = scheduler::fresh(t);
+    r.state
+}
+
 // A fresh state but for its clock.
-fn late(clock: u32) -> State {
-    let mut s = scheduler::fresh();
+fn late(t: Table, clock: u32) -> State {
+    let mut s = fresh(t);
     s.clock = clock;
     s
 }
 
 // A fresh state but for thread 0's rest of execution.
-fn runaway() -> State {
-    let mut s = scheduler::fresh();
+fn runaway(t: Table) -> State {
+    let mut s = fresh(t);
     let mut p = s.threads[0];
     p.execution = 3;
     s.threads[0] = p;
+    s
+}
+
+// A fresh state but for a thread's steps since its release.
+fn long_since(t: Table, i: usize, since: u16) -> State {
+    let mut s = fresh(t);
+    let mut p = s.threads[i % 32];
+    p.since = since;
+    s.threads[i % 32] = p;
     s
 }
 
@@ -76,6 +101,13 @@ fn marks_number(m: Marking) -> u8 {
     }
 }
 
+fn start_number(a: Starting) -> u8 {
+    match a {
+        Starting::Done => 0,
+        Starting::NotLegal => 11,
+    }
+}
+
 fn step_number(o: Outcome) -> u8 {
     match o {
         Outcome::Chose(_) => 0,
@@ -108,8 +140,16 @@ fn marks(t: Table, what: &[u8]) {
     io::write_all(1, what);
 }
 
-fn steps(s: State, bytes: &[u8], what: &[u8]) {
-    let r = scheduler::step(example(), s, bytes);
+fn starts(t: Table, what: &[u8]) {
+    let r = scheduler::fresh(t);
+    let a = r.answer;
+    say(start_number(a));
+    io::write_all(1, b": fresh, ");
+    io::write_all(1, what);
+}
+
+fn steps(t: Table, s: State, mask: u32, bytes: &[u8], what: &[u8]) {
+    let r = scheduler::step(t, s, mask, bytes);
     let o = r.outcome;
     say(step_number(o));
     io::write_all(1, b": step, ");
@@ -132,7 +172,7 @@ fn writes(what: &[u8]) {
 }
 
 fn drives(a: Actuator, what: &[u8]) {
-    let r = actuator::drive(example(), scheduler::fresh(), a, b"\x01\x01", 0);
+    let r = actuator::drive(example(), fresh(example()), a, 0, b"\x01\x01", 0);
     let o = r.outcome;
     say(step_number(o));
     io::write_all(1, b": drive, ");
@@ -146,7 +186,7 @@ fn main() {
     );
     reads(b"\x80\x00", b"the version as 80 00\n");
     reads(b"\x80\x80\x04", b"the version as 80 80 04\n");
-    reads(b"\x02", b"version 2\n");
+    reads(b"\x03", b"version 3\n");
     reads(b"\x01\x00", b"no domains\n");
     reads(b"\x01\x02\x02\x07", b"two domains, row 0 as 7\n");
     reads(
@@ -155,6 +195,14 @@ fn main() {
     );
     reads(b"\x01\x01\x01\x01\x00\x05\x00", b"a thread with period 0\n");
     reads(
+        b"\x02\x01\x01\x01\x00\x05\x0A\x00\x01\x01\x00\x02",
+        b"version 2, a thread of kind 2\n",
+    );
+    reads(
+        b"\x02\x01\x01\x01\x00\x05\x0A\x03\x01\x01\x00\x01",
+        b"version 2, an event thread with offset 3\n",
+    );
+    reads(
         b"\x01\x01\x02\x01\x00\x05\x01\x00\x01\x01\x00\x00\x05",
         b"two threads with priority 5\n",
     );
@@ -162,25 +210,62 @@ fn main() {
         b"\x01\x02\x02\x03\x02\x01\x1E\x0A\x00\x04\x0A\x02\x00\x14\x0A\x00\x03\x0A\x00\x00",
         b"example E and one byte more\n",
     );
+    let e = example();
+    let v = waking();
     marks(no_table(), b"a table of zeros\n");
+    starts(no_table(), b"a table of zeros\n");
     steps(
-        late(1000000001),
+        e,
+        late(e, 1000000001),
+        0,
         b"\x01\x01",
         b"example E at clock 1,000,000,001\n",
     );
     steps(
-        runaway(),
+        e,
+        runaway(e),
+        0,
         b"\x01\x01",
         b"example E with 3 steps for thread 0 to run, where W - B is 2\n",
     );
-    steps(scheduler::fresh(), b"\x01", b"example E with one byte\n");
     steps(
-        late(1000000000),
+        e,
+        long_since(e, 0, 1),
+        0,
+        b"\x01\x01",
+        b"example E with 1 step since the release of thread 0, which is periodic\n",
+    );
+    steps(
+        v,
+        long_since(v, 1, 11),
+        0,
+        b"\x01\x01",
+        b"version 2, thread 1 with events: 11 steps since its release, where P is 10\n",
+    );
+    steps(e, fresh(e), 0, b"\x01", b"example E with one byte\n");
+    steps(
+        e,
+        late(e, 1000000000),
+        0,
         b"\x01\x01",
         b"example E at clock 1,000,000,000\n",
     );
     shows(2, b"example E, domain 2\n");
     writes(b"example E into 18 bytes\n");
+    steps(
+        v,
+        fresh(v),
+        1,
+        b"\x01\x01",
+        b"version 2, thread 1 with events: one for thread 0, which is periodic\n",
+    );
+    steps(
+        v,
+        fresh(v),
+        4,
+        b"\x01\x01",
+        b"version 2, thread 1 with events: one for thread 2, which is missing\n",
+    );
     drives(
         actuator::start(0, 0, 0),
         b"example E, an actuator with rate 0\n",

@@ -1,10 +1,13 @@
-// A second scheduler, written from document 01 alone, for the first to be played against. It shares types with the first, and
-// neither a function nor a definition. It tells the time by when a thread was last released.
+// A second scheduler, written from documents 01 and 02 alone, for the first to be played against. It shares types with the first, and
+// neither a function nor a definition. It tells the time by when a thread was last released, and takes a mask for a set of threads.
+mod events;
 mod fit;
 mod seen;
+mod start;
 mod time;
 mod visits;
 
+use events::mask_is_good;
 use fit::fits;
 use rival_table::legal;
 use scheduler::Outcome;
@@ -14,6 +17,7 @@ pub use seen::GAP;
 pub use seen::showing;
 pub use seen::shown;
 pub use seen::threads_shown;
+pub use start::fresh;
 use table::Table;
 
 fn refused(number: u8, s: State) -> Stepped {
@@ -23,8 +27,8 @@ fn refused(number: u8, s: State) -> Stepped {
     }
 }
 
-// One step.
-pub fn step(t: Table, s: State, bytes: &[u8]) -> Stepped {
+// One step with the events of a mask.
+pub fn step(t: Table, s: State, mask: u32, bytes: &[u8]) -> Stepped {
     if !legal(t) {
         return refused(11, s);
     }
@@ -34,10 +38,13 @@ pub fn step(t: Table, s: State, bytes: &[u8]) -> Stepped {
     if bytes.len() != t.count as usize {
         return refused(13, s);
     }
+    if !mask_is_good(t, mask) {
+        return refused(18, s);
+    }
     if s.clock >= fit::END {
         return refused(14, s);
     }
-    let end = visits::walk(t, time::release(t, s), bytes);
+    let end = visits::walk(t, time::release(t, s, mask), bytes);
     let answer = end.answer;
     let mut next = end.state;
     next.clock = std::num::wrapping_add_u32(s.clock, 1);

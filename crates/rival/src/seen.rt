@@ -1,5 +1,6 @@
 // What a domain is shown, in numbers.
 use crate::fit::fits;
+use crate::start::nothing;
 use rival_table::flows;
 use rival_table::legal;
 use scheduler::Answer;
@@ -47,19 +48,22 @@ pub fn showing(t: Table, s: State, domain: u8) -> u32 {
     0
 }
 
-// Both rests, mark and count of each thread that the domain may see, and zeros for the others and on a refusal.
+// Both rests, mark and count of a thread, and nothing else.
+fn open_part(p: Progress) -> Progress {
+    let mut told = p;
+    told.since = 0;
+    told
+}
+
+// That of each thread which the domain may see, and zeros for the others and on a refusal.
 pub fn threads_shown(t: Table, s: State, domain: u8) -> [Progress; 32] {
     let refused = showing(t, s, domain) != 0;
-    let none = Progress {
-        rest: 0,
-        execution: 0,
-        finished: false,
-        ran: 0,
-    };
-    let mut threads = s.threads;
+    let none = nothing();
+    let mut threads = [none; 32];
     for i in 0..32u8 {
-        if refused | !is_seen(t, domain, i) {
-            threads[i as usize % 32] = none;
+        let p = s.threads[i as usize % 32];
+        if !refused & is_seen(t, domain, i) {
+            threads[i as usize % 32] = open_part(p);
         }
     }
     threads

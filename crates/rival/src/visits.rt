@@ -27,6 +27,7 @@ fn paid(p: Progress, byte: u8) -> Progress {
         execution: p.execution,
         finished: p.finished | (byte == 2),
         ran: p.ran,
+        since: p.since,
     }
 }
 

@@ -125,8 +125,16 @@ fn is_made(r: Driven, n: Answer, next: State, a: Actuator, command: i64) -> bool
 }
 
 // Whether a drive gives what the step and the second actuator give.
-pub fn agrees(r: Driven, t: Table, s: State, a: Actuator, bytes: &[u8], command: i64) -> bool {
-    let e = scheduler::step(t, s, bytes);
+pub fn agrees(
+    r: Driven,
+    t: Table,
+    s: State,
+    a: Actuator,
+    mask: u32,
+    bytes: &[u8],
+    command: i64,
+) -> bool {
+    let e = scheduler::step(t, s, mask, bytes);
     let o = e.outcome;
     match o {
         Outcome::Refused(why) => is_refused(r, why, s, a),

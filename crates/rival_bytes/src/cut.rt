@@ -9,8 +9,8 @@ struct Number {
 
 // The numbers from the first on, each with its place, up to one that is refused: its refusal and its place stand at the count.
 pub struct Pieces {
-    pub values: [u16; 256],
-    pub places: [usize; 256],
+    pub values: [u16; 288],
+    pub places: [usize; 288],
     pub count: usize,
     pub refusal: u8,
 }
@@ -70,10 +70,10 @@ fn number_at(s: &[u8], at: usize) -> Number {
 }
 
 pub fn cut(s: &[u8]) -> Pieces {
-    let mut values = [0u16; 256];
-    let mut places = [0usize; 256];
+    let mut values = [0u16; 288];
+    let mut places = [0usize; 288];
     let mut at = 0;
-    for k in 0..256usize {
+    for k in 0..288usize {
         places[k] = at;
         let n = number_at(s, at);
         if n.refusal != 0 {
@@ -90,7 +90,7 @@ pub fn cut(s: &[u8]) -> Pieces {
     Pieces {
         values,
         places,
-        count: 256,
+        count: 288,
         refusal: 10,
     }
 }

@@ -4,12 +4,9 @@ use std::num::wrapping_sub_usize;
 use table::Table;
 use table::Thread;
 
-// The numbers of a thread.
-use table::FIELDS;
-
 // Bytes, of which the first so many count; the others are zero.
 pub struct Page {
-    pub bytes: [u8; 800],
+    pub bytes: [u8; 900],
     pub len: usize,
 }
 
@@ -23,17 +20,29 @@ fn after_rows(t: Table, k: usize) -> usize {
     wrapping_sub_usize(row_of(k), t.domains as usize)
 }
 
+// A thread has seven numbers, and in version 2 its kind as the eighth.
 pub fn thread_of(t: Table, k: usize) -> usize {
-    after_rows(t, k) / FIELDS
+    if t.version == 2 {
+        return after_rows(t, k) / 8;
+    }
+    after_rows(t, k) / 7
 }
 
 pub fn field_of(t: Table, k: usize) -> usize {
-    after_rows(t, k) % FIELDS
+    if t.version == 2 {
+        return after_rows(t, k) % 8;
+    }
+    after_rows(t, k) % 7
+}
+
+// How many kinds stand in the bytes of a table.
+fn kinds(t: Table) -> usize {
+    if t.version == 2 { t.count as usize } else { 0 }
 }
 
 // How many numbers a table has.
 pub fn numbers(t: Table) -> usize {
-    3 + t.domains as usize + FIELDS * t.count as usize
+    wrapping_add_usize(3 + t.domains as usize + 7 * t.count as usize, kinds(t))
 }
 
 fn field(f: Thread, k: usize) -> u16 {
@@ -44,14 +53,15 @@ fn field(f: Thread, k: usize) -> u16 {
         3 => f.offset,
         4 => f.budget,
         5 => f.deadline,
-        _ => f.blocking,
+        6 => f.blocking,
+        _ => f.kind as u16,
     }
 }
 
 // Number k of a table.
 fn value(t: Table, k: usize) -> u16 {
     match k {
-        0 => 1,
+        0 => t.version as u16,
         1 => t.domains as u16,
         2 => t.count as u16,
         _ => {
@@ -84,13 +94,13 @@ fn size(v: u16) -> usize {
 // Each number is put with three bytes, and the next over those that do not count, which are zero.
 pub fn write(t: Table) -> Page {
     let count = numbers(t);
-    let mut bytes = [0u8; 800];
+    let mut bytes = [0u8; 900];
     let mut len = 0;
     for k in 0..count {
         let v = value(t, k);
-        bytes[len % 800] = low(v);
-        bytes[wrapping_add_usize(len, 1) % 800] = middle(v);
-        bytes[wrapping_add_usize(len, 2) % 800] = (v / 16384) as u8;
+        bytes[len % 900] = low(v);
+        bytes[wrapping_add_usize(len, 1) % 900] = middle(v);
+        bytes[wrapping_add_usize(len, 2) % 900] = (v / 16384) as u8;
         len = wrapping_add_usize(len, size(v));
     }
     Page { bytes, len }

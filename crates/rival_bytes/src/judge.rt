@@ -25,8 +25,10 @@ fn no_table() -> Table {
         budget: 0,
         deadline: 0,
         blocking: 0,
+        kind: 0,
     };
     Table {
+        version: 0,
         domains: 0,
         count: 0,
         rows: [0; 16],
@@ -61,7 +63,8 @@ fn with_field(f: Thread, k: usize, v: u16) -> Thread {
         3 => u.offset = v,
         4 => u.budget = v,
         5 => u.deadline = v,
-        _ => u.blocking = v,
+        6 => u.blocking = v,
+        _ => u.kind = (v % 256) as u8,
     }
     u
 }
@@ -71,7 +74,7 @@ fn with_number(t: Table, k: usize, v: u16) -> Table {
     let mut u = t;
     let i = thread_of(t, k) % 32;
     match k {
-        0 => {}
+        0 => u.version = (v % 256) as u8,
         1 => u.domains = (v % 256) as u8,
         2 => u.count = (v % 256) as u8,
         _ => {
@@ -94,7 +97,8 @@ fn is_in_range(f: Thread, domains: u8, k: usize, v: u16) -> bool {
         3 => v < f.period,
         4 => (1 <= v) & (v <= f.period),
         5 => (f.budget <= v) & (v <= f.period),
-        _ => v <= f.budget,
+        6 => v <= f.budget,
+        _ => (v == 0) | ((v == 1) & (f.offset == 0)),
     }
 }
 
@@ -119,7 +123,7 @@ fn unless(good: bool, refusal: u8) -> u8 {
 fn judge(t: Table, k: usize, v: u16) -> u8 {
     let rows = t.rows;
     match k {
-        0 => unless(v == 1, 4),
+        0 => unless((v == 1) | (v == 2), 4),
         1 => unless((1 <= v) & (v <= 16), 5),
         2 => unless((1 <= v) & (v <= 32), 5),
         _ => {
@@ -148,7 +152,7 @@ pub fn read(s: &[u8]) -> Reading {
     let values = cut.values;
     let places = cut.places;
     let mut t = no_table();
-    for k in 0..256usize {
+    for k in 0..288usize {
         let at = places[k];
         if k == numbers(t) {
             if at < s.len() {

@@ -1,4 +1,4 @@
-// A second reader and a second writer of the bytes of a table, written from document 01 alone. The reader first cuts the bytes
+// A second reader and a second writer of the bytes of a table, written from documents 01 and 02 alone. The reader first cuts the bytes
 // into numbers, and then judges one number after the other.
 mod cut;
 mod form;

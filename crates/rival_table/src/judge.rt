@@ -16,8 +16,14 @@ fn is_in_ranges(f: Thread, domains: u8) -> bool {
         & (f.blocking <= f.budget)
 }
 
+// A thread is released by its period (0), or by events (1): then its table is in version 2, and it has no offset.
+fn is_of_a_kind(f: Thread, version: u8) -> bool {
+    (f.kind == 0) | ((f.kind == 1) & (version == 2) & (f.offset == 0))
+}
+
 fn is_zero(f: Thread) -> bool {
-    (f.domain | f.priority == 0) & (f.period | f.offset | f.budget | f.deadline | f.blocking == 0)
+    (f.domain | f.priority | f.kind == 0)
+        & (f.period | f.offset | f.budget | f.deadline | f.blocking == 0)
 }
 
 // Whether one of the first so many threads has this priority.
@@ -37,7 +43,7 @@ fn place_is_good(t: Table, i: u8) -> bool {
     if i >= t.count {
         return is_zero(f);
     }
-    is_in_ranges(f, t.domains) & !is_held(threads, i, f.priority)
+    is_in_ranges(f, t.domains) & is_of_a_kind(f, t.version) & !is_held(threads, i, f.priority)
 }
 
 fn places_are_good(t: Table) -> bool {
@@ -49,13 +55,17 @@ fn places_are_good(t: Table) -> bool {
     true
 }
 
-// 1 to 16 domains, 1 to 32 threads.
-fn counts_are_good(t: Table) -> bool {
-    (1 <= t.domains) & (t.domains <= 16) & (1 <= t.count) & (t.count <= 32)
+// Version 1 or 2, 1 to 16 domains, 1 to 32 threads.
+fn head_is_good(t: Table) -> bool {
+    ((t.version == 1) | (t.version == 2))
+        & (1 <= t.domains)
+        & (t.domains <= 16)
+        & (1 <= t.count)
+        & (t.count <= 32)
 }
 
 pub fn legal(t: Table) -> bool {
-    if !counts_are_good(t) {
+    if !head_is_good(t) {
         return false;
     }
     let rows = t.rows;

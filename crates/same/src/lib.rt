@@ -14,11 +14,12 @@ fn same_thread(a: Thread, b: Thread) -> bool {
         & (a.budget == b.budget)
         & (a.deadline == b.deadline)
         & (a.blocking == b.blocking)
+        & (a.kind == b.kind)
 }
 
 // Each place of the threads, with a row beside it.
 pub fn same_table(a: Table, b: Table) -> bool {
-    let mut same = (a.domains == b.domains) & (a.count == b.count);
+    let mut same = (a.version == b.version) & (a.domains == b.domains) & (a.count == b.count);
     for i in 0..32usize {
         let x = a.threads[i];
         let y = b.threads[i];
@@ -32,6 +33,7 @@ fn same_progress(a: Progress, b: Progress) -> bool {
         & (a.execution == b.execution)
         & (a.finished == b.finished)
         & (a.ran == b.ran)
+        & (a.since == b.since)
 }
 
 pub fn same_state(a: State, b: State) -> bool {

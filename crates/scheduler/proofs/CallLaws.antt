@@ -15,34 +15,36 @@ use Rattle.table.specs.declared.Table.{Table}
 use Rattle.state.specs.State.{last-clock, Fits}
 use Rattle.state.specs.declared.State.{State}
 use Rattle.state.proofs.FitLaws.{fits-complete}
-use Rattle.walk.specs.Step.{step}
+use Rattle.walk.specs.Step.{Input, step}
 use Rattle.walk.specs.declared.Walked.{Walked}
 use Rattle.walk.proofs.StepLaws.{step-clock, step-fits}
-use Rattle.scheduler.specs.Taken.{Taken, took, refused-step, taken}
+use Rattle.scheduler.specs.Taken.{Taken, took, refused-step, mask-ok, taken}
 use Rattle.scheduler.specs.Calls.{Whole-steps, ended, next, calls, steps}
 use Rattle.scheduler.proofs.RefusalLaws.{taken-steps}
 
 module _ (t : Table) (ok : legal t ≡ true) where
-  -- On a fitting state a call is refused by the number of bytes or the clock, and by nothing else.
-  pub call-by : (bs : List ℕ) (s : State) → Fits t s
-      → taken t bs s
-      ≡ pick (eqb (length bs) (t .count)) (pick (ltb (s .clock) last-clock) (took (step t bs s)) (refused-step 14 s)) (refused-step 13 s)
+  -- On a fitting state a call is refused by the number of bytes, the mask or the clock, and by nothing else.
+  pub call-by : (x : Input) (s : State) → Fits t s
+      → taken t x s
+      ≡ pick (eqb (length (x .bytes)) (t .count))
+      (pick (mask-ok t (x .mask)) (pick (ltb (s .clock) last-clock) (took (step t x s)) (refused-step 14 s)) (refused-step 18 s)) (refused-step 13 s)
   unfolding taken pick
-  call-by bs s f = rw (ok, fits-complete t s f)
+  call-by x s f = rw (ok, fits-complete t s f)
 
-  pub call-fits : (bs : List ℕ) (s : State) → Fits t s → Fits t (taken t bs s .state)
-  call-fits bs s f =
+  pub call-fits : (x : Input) (s : State) → Fits t s → Fits t (taken t x s .state)
+  call-fits x s f =
       let P : Taken → Type 0 = λ r. Fits t (r .state) in
-      rw (call-by bs s f)
-      (either P (eqb (length bs) (t .count))
-      (λ _. either P (ltb (s .clock) last-clock) (λ e. step-fits t bs s f (ltb-true _ _ e)) (λ _. f)) (λ _. f))
+      rw (call-by x s f)
+      (either P (eqb (length (x .bytes)) (t .count))
+      (λ _. either P (mask-ok t (x .mask))
+      (λ _. either P (ltb (s .clock) last-clock) (λ e. step-fits t x s f (ltb-true _ _ e)) (λ _. f)) (λ _. f)) (λ _. f))
 
   -- With one byte a thread at each step, and clocks below the last, the calls give what the steps give.
-  pub calls-steps : (a : List (List ℕ)) → Whole-steps t a → (s : State) → Fits t s → s .clock + length a ≤ last-clock
+  pub calls-steps : (a : List Input) → Whole-steps t a → (s : State) → Fits t s → s .clock + length a ≤ last-clock
       → calls t a s ≡ map took (steps t a s)
   unfolding calls steps in-turn
   calls-steps a ended s f h = refl
-  calls-steps a (next {bs} {more} e w) s f h =
+  calls-steps a (next {x} {more} e m w) s f h =
       let l : s .clock < last-clock = omega arith in
-      let c : taken t bs s ≡ took (step t bs s) = taken-steps t bs s ok (fits-complete t s f) e l in
-      ap₂ _∷_ c (rw c (calls-steps more w (step t bs s .state) (step-fits t bs s f l) (omega (arith, step-clock t bs s))))
+      let c : taken t x s ≡ took (step t x s) = taken-steps t x s ok (fits-complete t s f) e m l in
+      ap₂ _∷_ c (rw c (calls-steps more w (step t x s .state) (step-fits t x s f l) (omega (arith, step-clock t x s))))

@@ -14,7 +14,8 @@ use Rattle.walk.proofs.HeardLaws.{walk-hears}
 use Rattle.scheduler.specs.Taken.{taken}
 
 -- Two calls with as many bytes, alike where they are heard, are the same call.
-pub unheard-nothing : (t : Table) (bs cs : List ℕ) (s : State) → length bs ≡ length cs
-    → Alike bs cs (heard-by (marks-of t) bs (order t) (release t (t .count) s)) → taken t bs s ≡ taken t cs s
+pub unheard-nothing : (t : Table) (mask : ℕ) (bs cs : List ℕ) (s : State) → length bs ≡ length cs
+    → Alike bs cs (heard-by (marks-of t) bs (order t) (release t mask s))
+    → taken t (record { mask = mask; bytes = bs }) s ≡ taken t (record { mask = mask; bytes = cs }) s
 unfolding taken step advance
-unheard-nothing t bs cs s l h = rw (l, walk-hears (marks-of t) bs cs (order t) (release t (t .count) s) h)
+unheard-nothing t mask bs cs s l h = rw (l, walk-hears (marks-of t) bs cs (order t) (release t mask s) h)

@@ -1,14 +1,17 @@
--- A call of the step: the number it is refused with, in the order 11, 12, 13, 14, or the step itself.
+-- A call of the step: the number it is refused with, in the order 11, 12, 13, 18, 14, or the step itself.
 use Prim.Native.Nat.{ℕ}
 use mathlib.Core.List.{List, [], _∷_}
+use mathlib.Core.Bool.{Bool, not}
 use lib.ListN.{length}
 use lib.Dec.{eqb, ltb}
-use Rattle.basis.specs.Tests.{pick}
+use Rattle.basis.specs.Tests.{pick, and, or, every}
 use Rattle.basis.specs.Told.{Told, answered, refused}
+use Rattle.table.specs.Threads.{thread}
 use Rattle.table.specs.Legal.{legal}
 use Rattle.table.specs.declared.Table.{Table}
 use Rattle.state.specs.State.{last-clock, fits}
-use Rattle.walk.specs.Step.{step}
+use Rattle.state.specs.Release.{has-event}
+use Rattle.walk.specs.Step.{Input, step}
 use Rattle.state.specs.declared.State.{State}
 use Rattle.walk.specs.declared.Answer.{Answer}
 use Rattle.walk.specs.declared.Answer.the-variants.{Ran, IdleFor, Idle}
@@ -46,14 +49,20 @@ refused-step why s = record { told = refused why; state = s }
 abbrev pub took : Walked → Taken
 took w = record { told = answered (values (w .answer)); state = w .state }
 
-unfoldable pub taken : Table → List ℕ → State → Taken
-taken t bs s =
+-- Bit i of a mask may be set only for an event thread i of the table.
+unfoldable pub mask-ok : Table → ℕ → Bool
+mask-ok t mask = every 32 (λ i. or (not (has-event mask i)) (and (ltb i (t .count)) (eqb (thread t i .kind) 1)))
+
+unfoldable pub taken : Table → Input → State → Taken
+taken t x s =
     pick (legal t)
     (pick (fits t s)
-    (pick (eqb (length bs) (t .count))
+    (pick (eqb (length (x .bytes)) (t .count))
+    (pick (mask-ok t (x .mask))
     (pick (ltb (s .clock) last-clock)
-    (took (step t bs s))
+    (took (step t x s))
     (refused-step 14 s))
+    (refused-step 18 s))
     (refused-step 13 s))
     (refused-step 12 s))
     (refused-step 11 s)

@@ -1,11 +1,20 @@
 // The scheduler: one step from every fitting state, or the number that refuses it.
 ghost use mathlib.Core.Path.{_≡_};
 ghost use mathlib.Core.List.{[]};
-ghost use Rattle.scheduler.specs.Taken.{taken, taken-of};
+ghost use Prim.Native.Nat.{_<_};
+ghost use lib.Dec.{eqb, ltb};
+ghost use mathlib.Core.Bool.{not};
+ghost use Rattle.basis.specs.Tests.{and, or};
+ghost use Rattle.state.specs.Release.{has-event};
+ghost use Rattle.table.specs.Threads.{thread};
+ghost use Rattle.scheduler.specs.Taken.{mask-ok, taken, taken-of};
 pub use state::Progress;
+pub use state::Started;
+pub use state::Starting;
 pub use state::State;
 pub use state::fits;
 pub use state::fresh;
+use state::has_event;
 use table::Table;
 use table::legal;
 pub use walk::Answer;
@@ -33,9 +42,44 @@ fn refuse(why: u8, s: State) -> Stepped
     }
 }
 
-// One step: 11, 12, 13, 14, or the answer and the next state.
-pub fn step(t: Table, s: State, bytes: &[u8]) -> Stepped
-    ensures { λ r. ⌜ taken-of r ≡ taken t (now (bytes .entry)) s ⌝ }
+// Whether thread i is an event thread of the table.
+fn takes_events(t: Table, i: u8) -> bool
+    requires { ⌜ i < 32 ⌝ }
+    ensures { λ r. ⌜ r ≡ and (ltb i (t .count)) (eqb (thread t i .kind) 1) ⌝ }
+{
+    if t.count <= i {
+        return false;
+    }
+    let th = t.threads[i as usize];
+    th.kind == 1
+}
+
+// Whether bit i of a mask is not set, or is that of an event thread.
+fn bit_passes(t: Table, mask: u32, i: u8) -> bool
+    requires { ⌜ i < 32 ⌝ }
+    ensures { λ r. ⌜ r ≡ or (not (has-event mask i)) (and (ltb i (t .count)) (eqb (thread t i .kind) 1)) ⌝ }
+{
+    if has_event(mask, i) {
+        return takes_events(t, i);
+    }
+    true
+}
+
+// Whether a mask has bits of event threads only.
+fn mask_passes(t: Table, mask: u32) -> bool
+    ensures { λ r. ⌜ r ≡ mask-ok t mask ⌝ }
+{
+    for i in 0..32u8 {
+        if !bit_passes(t, mask, i) {
+            return false;
+        }
+    }
+    true
+}
+
+// One step: 11, 12, 13, 18, 14, or the answer and the next state.
+pub fn step(t: Table, s: State, mask: u32, bytes: &[u8]) -> Stepped
+    ensures { λ r. ⌜ taken-of r ≡ taken t (record { mask = mask; bytes = now (bytes .entry) }) s ⌝ }
 {
     if !legal(t) {
         return refuse(11, s);
@@ -46,11 +90,14 @@ pub fn step(t: Table, s: State, bytes: &[u8]) -> Stepped
     if bytes.len() != t.count as usize {
         return refuse(13, s);
     }
+    if !mask_passes(t, mask) {
+        return refuse(18, s);
+    }
     if 1000000000 <= s.clock {
         return refuse(14, s);
     }
     let p = prepare(t);
-    let w = advance(t, p, s, bytes);
+    let w = advance(t, p, s, mask, bytes);
     let a = w.answer;
     let next = w.state;
     Stepped {

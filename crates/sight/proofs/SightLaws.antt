@@ -16,7 +16,7 @@ use Rattle.flow.specs.Flow.{flows}
 use Rattle.table.specs.Threads.{thread}
 use Rattle.table.specs.Mark.{seen-by}
 use Rattle.table.specs.declared.Table.{Table}
-use Rattle.state.specs.State.{no-progress, progress}
+use Rattle.state.specs.State.{no-progress, with-since, progress}
 use Rattle.state.specs.declared.State.{State}
 use Rattle.state.specs.declared.Progress.{Progress}
 use Rattle.walk.specs.declared.Answer.the-variants.{Ran, IdleFor, Idle}
@@ -42,14 +42,14 @@ module _ (t : Table) (d : ℕ) where
   -- Two states in which each thread that d may see is the same are shown the same.
   pub seen-same : (s r : State) → ((i : ℕ) → visible t d i ≡ true → progress s i ≡ progress r i) → seen-threads t d s ≡ seen-threads t d r
   unfolding seen-threads seen-progress
-  seen-same s r h = ap (listed 32) (fun-ext (λ i. both _≡_ (visible t d i) _ refl (λ v. h i v) (λ _. refl)))
+  seen-same s r h = ap (listed 32) (fun-ext (λ i. both _≡_ (visible t d i) _ refl (λ v. ap (with-since 0) (h i v)) (λ _. refl)))
 
-  -- Of a place d is shown the progress of a thread that it may see, and zeros of any other.
+  -- Of a place d is shown the progress of a thread that it may see, but for its steps since release, and zeros of any other.
   shown-at : (s : State) (i : ℕ) → i < 32 → getD (seen-threads t d s) i no-progress ≡ seen-progress t d s i
   unfolding seen-threads
   shown-at s i l = sym (ap (λ (x : List Progress). getD x i no-progress) (append-nil (listed 32 (seen-progress t d s)))) ∙ listed-at (seen-progress t d s) 32 i [] no-progress l
 
-  pub seen-at : (s : State) (i : ℕ) → i < 32 → visible t d i ≡ true → getD (seen-threads t d s) i no-progress ≡ progress s i
+  pub seen-at : (s : State) (i : ℕ) → i < 32 → visible t d i ≡ true → getD (seen-threads t d s) i no-progress ≡ with-since 0 (progress s i)
   unfolding seen-progress pick
   seen-at s i l v = shown-at s i l ∙ rw v
 

@@ -10,7 +10,7 @@ use Rattle.basis.specs.Told.{Told, answered, refused}
 use Rattle.table.specs.Legal.{legal}
 use Rattle.table.specs.Mark.{seen-by}
 use Rattle.table.specs.declared.Table.{Table}
-use Rattle.state.specs.State.{no-progress, progress, fits}
+use Rattle.state.specs.State.{no-progress, with-since, progress, fits}
 use Rattle.state.specs.declared.Progress.{Progress}
 use Rattle.state.specs.declared.State.{State}
 use Rattle.walk.specs.declared.Answer.{Answer}
@@ -41,9 +41,10 @@ told Gap = answered []
 told NotLegal = refused 11
 told NoDomain = refused 15
 
--- Thread i's rests, mark and count if d may see it, and zeros otherwise.
+-- Thread i's rests, mark and count if d may see it, and zeros otherwise; its steps since release follow from the public masks and are not
+-- shown.
 unfoldable pub seen-progress : Table → ℕ → State → ℕ → Progress
-seen-progress t d s i = pick (visible t d i) (progress s i) no-progress
+seen-progress t d s i = pick (visible t d i) (with-since 0 (progress s i)) no-progress
 
 -- What d is shown of each thread.
 unfoldable pub seen-threads : Table → ℕ → State → List Progress

@@ -44,15 +44,16 @@ fn seen(t: Table, d: u8, s: State, i: u8) -> Progress
     requires { ⌜ (t .count ≤ 32) × (i < 32) ⌝ }
     ensures { λ r. ⌜ r ≡ seen-progress t d s i ⌝ }
 {
-    let p = s.threads[i as usize];
+    let mut p = s.threads[i as usize];
     let hidden = no_progress();
     if is_visible(t, d, i) {
+        p.since = 0;
         return p;
     }
     hidden
 }
 
-// The progress of each thread that d may see, and zeros for the others.
+// The progress of each thread that d may see, but for its steps since release, and zeros for the others.
 pub fn seen_threads(t: Table, d: u8, s: State) -> [Progress; 32]
     requires { ⌜ t .count ≤ 32 ⌝ }
     ensures { λ r. ⌜ r ≡ seen-threads t d s ⌝ }

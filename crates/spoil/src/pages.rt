@@ -8,9 +8,9 @@ use rival_bytes::Page;
 fn opened(p: Page, at: usize, by: usize) -> Page {
     let mut bytes = p.bytes;
     let from = p.bytes;
-    for i in 0..800usize {
+    for i in 0..900usize {
         if at < i {
-            bytes[i] = from[std::num::wrapping_sub_usize(i, by) % 800];
+            bytes[i] = from[std::num::wrapping_sub_usize(i, by) % 900];
         }
     }
     Page {
@@ -21,7 +21,7 @@ fn opened(p: Page, at: usize, by: usize) -> Page {
 
 fn with_byte(p: Page, at: usize, b: u8) -> Page {
     let mut bytes = p.bytes;
-    bytes[at % 800] = b;
+    bytes[at % 900] = b;
     Page { bytes, len: p.len }
 }
 
@@ -29,14 +29,14 @@ fn with_byte(p: Page, at: usize, b: u8) -> Page {
 fn huge(p: Page, at: usize, last: u8) -> Page {
     let q = opened(p, at, 2);
     let r = with_byte(q, at, 255);
-    let s = with_byte(r, at % 700 + 1, 255);
-    with_byte(s, at % 700 + 2, last)
+    let s = with_byte(r, at % 800 + 1, 255);
+    with_byte(s, at % 800 + 2, last)
 }
 
 // Bytes of kind: 0 nothing wrong, 1 a byte of any value, 2 one more, 3 one less, 4 its top bit turned, 5 cut, 6 more behind the
 // last, 7 a number in a longer form, 8 a number too large, 9 in its third byte.
 pub fn bytes(seed: u64, p: Page, kind: u16) -> Page {
-    let at = below32(seed, 1, (p.len % 800) as u32) as usize % 700;
+    let at = below32(seed, 1, (p.len % 900) as u32) as usize % 800;
     let bytes = p.bytes;
     let b = bytes[at];
     match kind {

@@ -13,9 +13,9 @@ use std::num::wrapping_sub_u16;
 use table::Table;
 use table::Thread;
 
-pub const KINDS: u32 = 8;
+pub const KINDS: u32 = 9;
 
-pub const STATE_KINDS: u32 = 5;
+pub const STATE_KINDS: u32 = 6;
 
 // A number that no table has, or one more or less than this.
 fn count(seed: u64, n: u8) -> u8 {
@@ -63,15 +63,39 @@ fn past(seed: u64, f: Thread, domains: u8) -> Thread {
 // A field of any value.
 fn changed(seed: u64, f: Thread, value: u16) -> Thread {
     let mut u = f;
-    match below(seed, 6, 7) {
+    match below(seed, 6, 8) {
         0 => u.domain = (value % 256) as u8,
         1 => u.priority = (value % 256) as u8,
         2 => u.period = value,
         3 => u.offset = value,
         4 => u.budget = value,
         5 => u.deadline = value,
-        _ => u.blocking = value,
+        6 => u.blocking = value,
+        _ => u.kind = (value % 256) as u8,
     }
+    u
+}
+
+// A version that there is not, or a thread of no kind: a kind of 2, an event thread with an offset, or one in version 1.
+fn misfit(seed: u64, t: Table, i: u8, f: Thread) -> Table {
+    let mut u = t;
+    let mut g = f;
+    match below(seed, 18, 5) {
+        0 => u.version = 0,
+        1 => u.version = 3,
+        2 => g.kind = 2,
+        3 => {
+            u.version = 2;
+            g.kind = 1;
+            g.offset = 1;
+        }
+        _ => {
+            u.version = 1;
+            g.kind = 1;
+            g.offset = 0;
+        }
+    }
+    u.threads[i as usize % 32] = g;
     u
 }
 
@@ -94,7 +118,7 @@ fn with_thread(t: Table, i: u8, f: Thread) -> Table {
 }
 
 // A table of kind: 0 a wrong number of domains, 1 of threads, 2 a bit or two of a row turned, 3 an unused row not zero, 4 a priority
-// twice, 5 a field just past its range, 6 a field of any value, 7 an unused place not zero.
+// twice, 5 a field just past its range, 6 a field of any value, 7 an unused place not zero, 8 a version or a kind that there is not.
 pub fn table(seed: u64, t: Table, kind: u32) -> Table {
     let mut u = t;
     let d = below8(seed, 8, t.domains);
@@ -115,13 +139,25 @@ pub fn table(seed: u64, t: Table, kind: u32) -> Table {
         4 => u = with_thread(t, j, g),
         5 => u = with_thread(t, i, past(seed, f, t.domains)),
         6 => u = with_thread(t, i, changed(seed, f, any(seed, 11))),
-        _ => u = with_thread(t, n, changed(seed, none, 1)),
+        7 => u = with_thread(t, n, changed(seed, none, 1)),
+        _ => u = misfit(seed, t, i, f),
     }
     u
 }
 
-// A state of kind: 0 a rest above the budget or a rest of execution above its share, 1 a count above the clock, 2 a clock above the last, 3 the last clock, 4 an unused
-// place not zero.
+// More steps since release than a thread may have: P where it is released by events, none where it is periodic.
+fn too_long(f: Thread, much: bool) -> u16 {
+    if much {
+        return 65535;
+    }
+    if f.kind == 1 {
+        return wrapping_add_u16(f.period, 1);
+    }
+    1
+}
+
+// A state of kind: 0 a rest above the budget or a rest of execution above its share, 1 a count above the clock, 2 a clock above the
+// last, 3 the last clock, 4 an unused place not zero, 5 too many steps since release.
 pub fn state(seed: u64, t: Table, s: State, kind: u32) -> State {
     let mut u = s;
     let much = seldom(seed, 12, 2);
@@ -153,12 +189,14 @@ pub fn state(seed: u64, t: Table, s: State, kind: u32) -> State {
         },
         2 => u.clock = if much { 4294967295 } else { 1000000001 },
         3 => u.clock = 1000000000,
-        _ => match below(seed, 14, 4) {
+        4 => match below(seed, 14, 5) {
             0 => p.rest = 1,
             1 => p.finished = true,
             2 => p.execution = 1,
+            3 => p.since = 1,
             _ => p.ran = 1,
         },
+        _ => p.since = too_long(f, much),
     }
     u.threads[i as usize % 32] = p;
     u

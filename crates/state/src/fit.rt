@@ -1,7 +1,7 @@
 // The test that a state fits its table.
 ghost use mathlib.Core.Path.{_≡_};
 ghost use Rattle.basis.specs.Tests.{pick};
-ghost use Rattle.state.specs.State.{execution-budget, used-fits, unused-fits, fits};
+ghost use Rattle.state.specs.State.{execution-budget, longest-since, used-fits, unused-fits, fits};
 use super::Progress;
 use super::State;
 use table::Table;
@@ -17,6 +17,16 @@ pub fn execution_budget(th: Thread) -> u16
     th.budget - th.blocking
 }
 
+// The steps since release that a thread has at most: P where it is released by events, 0 where by the clock.
+pub fn longest_since(th: Thread) -> u16
+    ensures { λ r. ⌜ r ≡ longest-since th ⌝ }
+{
+    if th.kind == 1 {
+        return th.period;
+    }
+    0
+}
+
 // Whether a thread's progress fits at a clock.
 fn used_fits(th: Thread, clock: u32, p: Progress) -> bool
     ensures { λ r. ⌜ r ≡ used-fits th clock p ⌝ }
@@ -27,7 +37,10 @@ fn used_fits(th: Thread, clock: u32, p: Progress) -> bool
     if execution_budget(th) < p.execution {
         return false;
     }
-    p.ran <= clock
+    if clock < p.ran {
+        return false;
+    }
+    p.since <= longest_since(th)
 }
 
 // Whether what stands past the last thread is zero and unmarked.
@@ -43,7 +56,10 @@ fn unused_fits(p: Progress) -> bool
     if p.finished {
         return false;
     }
-    p.ran == 0
+    if p.ran != 0 {
+        return false;
+    }
+    p.since == 0
 }
 
 // Whether a progress fits its place at a clock: a thread's, or one that is not in use.

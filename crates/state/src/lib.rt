@@ -1,20 +1,26 @@
 // The state by value: its methods, its release, and the test that it fits its table.
 ghost use mathlib.Core.Path.{_≡_};
-ghost use Rattle.state.specs.State.{fresh as the-fresh};
+ghost use Rattle.state.specs.State.{told, starting, fresh-given};
+use table::Table;
+use table::legal;
 
 mod fit;
 mod methods;
 mod release;
+mod start;
 
 pub use fit::fits;
 pub use methods::no_progress;
+pub use release::has_event;
 
-// The rest of a thread's budget, its rest of execution, its finish mark and its count of steps run.
+// The rest of a thread's budget, its rest of execution, its finish mark, its count of steps run, and an event thread's steps since
+// its release.
 pub struct Progress {
     pub rest: u16,
     pub execution: u16,
     pub finished: bool,
     pub ran: u32,
+    pub since: u16,
 }
 
 // Steps done, and the progress of each thread.
@@ -23,13 +29,29 @@ pub struct State {
     pub threads: [Progress; 32],
 }
 
-// The state before the first step.
-pub fn fresh() -> State
-    ensures { λ r. ⌜ r ≡ the-fresh ⌝ }
+pub enum Starting {
+    Done,
+    NotLegal,
+}
+
+// The state is all zero on a refusal.
+pub struct Started {
+    pub answer: Starting,
+    pub state: State,
+}
+
+// The state before the first step of a table, or 11.
+pub fn fresh(t: Table) -> Started
+    ensures { λ r. ⌜ (told (r .answer) ≡ starting t) × (r .state ≡ fresh-given t) ⌝ }
 {
-    let none = methods::no_progress();
-    State {
-        clock: 0,
-        threads: [none; 32],
+    if !legal(t) {
+        return Started {
+            answer: Starting::NotLegal,
+            state: start::no_state(),
+        };
+    }
+    Started {
+        answer: Starting::Done,
+        state: start::fresh_state(t),
     }
 }

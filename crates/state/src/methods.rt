@@ -1,10 +1,13 @@
 // The methods on the state, each by value: pay, finish and tick, which document 01 names, and count return the next state.
 ghost use mathlib.Core.Path.{_≡_};
-ghost use Prim.Native.Nat.{_<_};
+ghost use Prim.Native.Nat.{_<_, _≤_};
 ghost use Rattle.state.specs.State.{no-progress, progress, last-clock};
-ghost use Rattle.state.specs.Methods.{pay, finish, count, tick};
+ghost use Rattle.state.specs.Methods.{pay, finish, count, aged, tick};
 use super::Progress;
 use super::State;
+use super::fit::longest_since;
+use table::Table;
+use table::Thread;
 
 pub fn no_progress() -> Progress
     ensures { λ r. ⌜ r ≡ no-progress ⌝ }
@@ -14,7 +17,19 @@ pub fn no_progress() -> Progress
         execution: 0,
         finished: false,
         ran: 0,
+        since: 0,
     }
+}
+
+// A thread's progress with the clock one further.
+fn aged(th: Thread, mut p: Progress) -> Progress
+    ensures { λ r. ⌜ r ≡ aged th p ⌝ }
+{
+    if p.since < longest_since(th) {
+        p.since = p.since + 1;
+        return p;
+    }
+    p
 }
 
 impl State {
@@ -52,12 +67,22 @@ impl State {
         self
     }
 
-    // The clock goes up by one.
-    pub fn tick(mut self) -> State
-        requires { ⌜ self .clock < last-clock ⌝ }
-        ensures { λ r. ⌜ r ≡ tick self ⌝ }
+    // The clock goes up by one, and with it the steps since each release.
+    pub fn tick(self, t: Table) -> State
+        requires { ⌜ (self .clock < last-clock) × (t .count ≤ 32) ⌝ }
+        ensures { λ r. ⌜ r ≡ tick t self ⌝ }
     {
-        self.clock = self.clock + 1;
-        self
+        let clock = self.clock + 1;
+        let count = t.count as usize;
+        let mut next = self;
+        let mut i: usize = 0;
+        while i < count {
+            let th = t.threads[i];
+            let p = next.threads[i];
+            next.threads[i] = aged(th, p);
+            i += 1;
+        }
+        next.clock = clock;
+        next
     }
 }

@@ -29,11 +29,11 @@ pub fn is_taken(threads: [Thread; 32], n: u8, p: u16) -> bool
     false
 }
 
-fn thread_passes(domains: u8, th: Thread) -> bool
-    ensures { λ r. ⌜ r ≡ thread-ok domains th ⌝ }
+fn thread_passes(version: u8, domains: u8, th: Thread) -> bool
+    ensures { λ r. ⌜ r ≡ thread-ok version domains th ⌝ }
 {
     let vs = fields(th);
-    let ranges = field_ranges(domains, th.period, th.budget);
+    let ranges = field_ranges(version, domains, th.period, th.offset, th.budget);
     for k in 0..FIELDS {
         let range = ranges[k];
         if !in_range(range, vs[k]) {
@@ -78,11 +78,11 @@ fn rows_are_legal(rows: [u16; 16], domains: u8) -> bool
 }
 
 // Whether what stands in a place is legal: a thread in range with a priority not taken, or zero where no thread is.
-fn place_is_legal(th: Thread, domains: u8, used: bool, taken: bool) -> bool
-    ensures { λ r. ⌜ r ≡ pick used (and (thread-ok domains th) (not taken)) (thread-zero th) ⌝ }
+fn place_is_legal(th: Thread, version: u8, domains: u8, used: bool, taken: bool) -> bool
+    ensures { λ r. ⌜ r ≡ pick used (and (thread-ok version domains th) (not taken)) (thread-zero th) ⌝ }
 {
     if used {
-        if thread_passes(domains, th) {
+        if thread_passes(version, domains, th) {
             return !taken;
         }
         return false;
@@ -98,7 +98,7 @@ fn places_are_legal(t: Table) -> bool
     for i in 0..32u8 {
         let th = t.threads[i as usize];
         let p = th.priority as usize;
-        if !place_is_legal(th, t.domains, i < t.count, taken[p]) {
+        if !place_is_legal(th, t.version, t.domains, i < t.count, taken[p]) {
             return false;
         }
         taken[p] = true;
@@ -109,6 +109,9 @@ fn places_are_legal(t: Table) -> bool
 pub fn table_passes(t: Table) -> bool
     ensures { λ r. ⌜ r ≡ legal t ⌝ }
 {
+    if !in_range(Range { low: 1, below: 3 }, t.version as u16) {
+        return false;
+    }
     let domains = t.domains;
     if !in_range(Range { low: 1, below: 17 }, domains as u16) {
         return false;

@@ -12,12 +12,13 @@ pub use leak::mark_all;
 pub use leak::no_mark;
 pub use ranges::field_range;
 pub use ranges::fields;
+pub use ranges::fields_in;
 pub use ranges::in_range;
 pub use ranges::make_thread;
 pub use ranges::no_thread;
 
 // How many fields a thread has.
-pub const FIELDS: usize = 7;
+pub const FIELDS: usize = 8;
 
 pub struct Thread {
     pub domain: u8,
@@ -27,9 +28,12 @@ pub struct Thread {
     pub budget: u16,
     pub deadline: u16,
     pub blocking: u16,
+    // 0 periodic, 1 event
+    pub kind: u8,
 }
 
 pub struct Table {
+    pub version: u8,
     pub domains: u8,
     pub count: u8,
     pub rows: [u16; 16],

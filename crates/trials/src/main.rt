@@ -22,7 +22,10 @@ fn table(seed: u64) -> Table {
 fn play(y: Tally, seed: u64) -> Tally {
     let t = table(seed);
     if seldom(seed, 1, 8) {
-        return count::table(y, spoil::table(part(seed, 3), t, dice::below32(seed, 2, 8)));
+        return count::table(
+            y,
+            spoil::table(part(seed, 3), t, dice::below32(seed, 2, spoil::KINDS)),
+        );
     }
     if rival_bounds::is_long(t) & !seldom(seed, 4, 24) {
         return y;
@@ -44,6 +47,7 @@ fn slowest() -> Table {
         budget: 1,
         deadline: 1,
         blocking: 0,
+        kind: 0,
     };
     threads[0] = f;
     f.period = 60000;
@@ -51,6 +55,7 @@ fn slowest() -> Table {
     f.priority = 0;
     threads[1] = f;
     Table {
+        version: 1,
         domains: 1,
         count: 2,
         rows,

@@ -24,15 +24,16 @@ use Rattle.state.specs.Methods.{paid, pay, done, finish, counted, count, tick}
 use Rattle.state.specs.declared.Progress.{Progress}
 use Rattle.state.specs.declared.State.{State}
 use Rattle.state.proofs.ReleaseLaws.{release-length}
+use Rattle.state.proofs.TickLaws.{tick-keeps, tick-same, aged-rest, aged-finished}
 use Rattle.order.specs.Order.{order, Stands}
 use Rattle.order.proofs.OrderLaws.{Falling-from, order-falls-from, order-whole}
 use Rattle.walk.specs.Walk.{heard, runs, walked, decided, visit, chosen, walk}
-use Rattle.walk.specs.Step.{ticked, advance, step, Names, ran, idles, Says}
+use Rattle.walk.specs.Step.{Input, ticked, advance, step, Names, ran, idles, Says}
 use Rattle.walk.specs.declared.Answer.{Answer}
 use Rattle.walk.specs.declared.Answer.the-variants.{Ran, IdleFor, Idle}
 use Rattle.walk.specs.declared.Walked.{Walked}
 use Rattle.walk.specs.Paid.{pays}
-use Rattle.walk.proofs.WalkLaws.{visit-keeps, walk-on, walk-stop}
+use Rattle.walk.proofs.WalkLaws.{visit-keeps, walk-length, walk-on, walk-stop}
 use Rattle.walk.proofs.ReachedLaws.{reached-pays, marked-ends, runs-exactly}
 
 put-other : (s : State) (i k : ℕ) (p : Progress) → k ≢ i → progress (put s i p) k ≡ progress s k
@@ -108,11 +109,13 @@ module _ (t : Table) (m : List Mark) (bs : List ℕ) where
       (λ w. walk-below i k _ js _ (f .1) w l ∙ visit-others m _ j s k (apart t k j (lt-trans l (walk-named i _ js _ (f .1) w))))
       n
 
--- Threads below the chosen one pay nothing, and their bytes are not heard: they are as the release left them.
-pub below-chosen : (t : Table) (bs : List ℕ) (s : State) (i k : ℕ) → Names i (step t bs s .answer) → thread t k .priority < thread t i .priority
-    → progress (step t bs s .state) k ≡ progress (release t (t .count) s) k
-unfolding step advance ticked tick
-below-chosen t bs s i k n l = walk-below t (marks-of t) bs i k 256 (order t) _ (order-falls-from t) n l
+-- Threads below the chosen one pay nothing, and their bytes are not heard: they are as the release left them, one tick later.
+pub below-chosen : (t : Table) (x : Input) (s : State) (i k : ℕ) → Names i (step t x s .answer) → thread t k .priority < thread t i .priority
+    → progress (step t x s .state) k ≡ progress (tick t (release t (x .mask) s)) k
+unfolding step advance ticked
+below-chosen t x s i k n l =
+    let r : State = release t (x .mask) s in
+    tick-same t _ r (walk-length (marks-of t) (x .bytes) (order t) r) k (walk-below t (marks-of t) (x .bytes) i k 256 (order t) r (order-falls-from t) n l)
 
 -- A thread with a rest is reached.
 reached : (m : List Mark) (b i : ℕ) (s : State) → 0 < progress s i .rest → visit m b i s ≡ decided m b i (heard b i s)
@@ -158,11 +161,11 @@ module _ (t : Table) (m : List Mark) (bs : List ℕ) where
       h)
 
 -- If nobody is chosen, no thread with a rest runs or is marked: the processor idles for want of work only.
-pub idle-only : (t : Table) → Legal t → (bs : List ℕ) (s : State) → step t bs s .answer ≡ Idle → (i : ℕ) → i < t .count
-    → 0 < progress (release t (t .count) s) i .rest → (marked t i ≡ false) × (runs (getD bs i 0) (progress (release t (t .count) s) i) ≡ false)
+pub idle-only : (t : Table) → Legal t → (x : Input) (s : State) → step t x s .answer ≡ Idle → (i : ℕ) → i < t .count
+    → 0 < progress (release t (x .mask) s) i .rest → (marked t i ≡ false) × (runs (getD (x .bytes) i 0) (progress (release t (x .mask) s) i) ≡ false)
 unfolding step advance ticked
-idle-only t g bs s e i l h =
-    let w = walk-idle t (marks-of t) bs i 256 (order t) _ (order-falls-from t) e (order-whole t g i l) h in
+idle-only t g x s e i l h =
+    let w = walk-idle t (marks-of t) (x .bytes) i 256 (order t) _ (order-falls-from t) e (order-whole t g i l) h in
     (sym (set-exactly t i l) ∙ w .0, w .1)
 
 -- What a reached thread has left once it has paid.
@@ -227,12 +230,12 @@ module _ (t : Table) (m : List Mark) (bs : List ℕ) where
       h)
 
 -- The chosen thread is the first: above it no thread with a rest runs or is marked.
-pub chosen-first : (t : Table) → Legal t → (bs : List ℕ) (s : State) (k i : ℕ) → Names k (step t bs s .answer)
-    → thread t k .priority < thread t i .priority → i < t .count → 0 < progress (release t (t .count) s) i .rest
-    → (marked t i ≡ false) × (runs (getD bs i 0) (progress (release t (t .count) s) i) ≡ false)
+pub chosen-first : (t : Table) → Legal t → (x : Input) (s : State) (k i : ℕ) → Names k (step t x s .answer)
+    → thread t k .priority < thread t i .priority → i < t .count → 0 < progress (release t (x .mask) s) i .rest
+    → (marked t i ≡ false) × (runs (getD (x .bytes) i 0) (progress (release t (x .mask) s) i) ≡ false)
 unfolding step advance ticked
-chosen-first t g bs s k i n l c h =
-    let w = walk-first t (marks-of t) bs i k 256 (order t) _ (order-falls-from t) n l (order-whole t g i c) h in
+chosen-first t g x s k i n l c h =
+    let w = walk-first t (marks-of t) (x .bytes) i k 256 (order t) _ (order-falls-from t) n l (order-whole t g i c) h in
     (sym (set-exactly t i c) ∙ w .0, w .1)
 
 -- Hearing does not change whether a thread runs: its byte is 1 or it does not run before and after.
@@ -326,20 +329,21 @@ module _ (t : Table) (m : List Mark) (bs : List ℕ) where
       h))
 
 -- The chosen thread runs, or it is marked and waits.
-pub chosen-says : (t : Table) (bs : List ℕ) (s : State) → Says (marks-of t) bs (release t (t .count) s) (step t bs s .answer)
+pub chosen-says : (t : Table) (x : Input) (s : State) → Says (marks-of t) (x .bytes) (release t (x .mask) s) (step t x s .answer)
 unfolding step advance ticked
-chosen-says t bs s = walk-says t (marks-of t) bs 256 (order t) _ (order-falls-from t)
+chosen-says t x s = walk-says t (marks-of t) (x .bytes) 256 (order t) _ (order-falls-from t)
 
 -- Every thread with a rest, down to the chosen one or all where nobody is chosen, pays one.
-pub reached-pay-one : (t : Table) → Legal t → (bs : List ℕ) (s : State) → Fits t s → (i : ℕ) → i < t .count → 0 < progress (release t (t .count) s) i .rest
-    → ((k : ℕ) → Names k (step t bs s .answer) → thread t k .priority ≤ thread t i .priority) → pays t bs s i ≡ 1
-unfolding pays step advance ticked tick
-reached-pay-one t g bs s f i l h n =
-    let long : length (release t (t .count) s .threads) ≡ 32 = release-length t (t .count) s ∙ f .long in
+pub reached-pay-one : (t : Table) → Legal t → (x : Input) (s : State) → Fits t s → (i : ℕ) → i < t .count → 0 < progress (release t (x .mask) s) i .rest
+    → ((k : ℕ) → Names k (step t x s .answer) → thread t k .priority ≤ thread t i .priority) → pays t x s i ≡ 1
+unfolding pays step advance ticked
+reached-pay-one t g x s f i l h n =
+    let long : length (release t (x .mask) s .threads) ≡ 32 = release-length t (x .mask) s ∙ f .long in
     let few : t .count ≤ 32 = g .count-high in
-    let w = walk-leaves t (marks-of t) bs (λ k r p. r .rest + 1 ≡ p .rest) (λ k z u v. visit-takes t (marks-of t) bs (getD bs k 0) k z u v) i 256 (order t)
-    (release t (t .count) s) (order-falls-from t) (rw long (omega arith)) (order-whole t g i l) h n in
-    omega (arith, w)
+    let w = walk-leaves t (marks-of t) (x .bytes) (λ k r p. r .rest + 1 ≡ p .rest) (λ k z u v. visit-takes t (marks-of t) (x .bytes) (getD (x .bytes) k 0) k z u v) i 256 (order t)
+    (release t (x .mask) s) (order-falls-from t) (rw long (omega arith)) (order-whole t g i l) h n in
+    let k = tick-keeps t (λ p. p .rest) aged-rest (walk (marks-of t) (x .bytes) (order t) (release t (x .mask) s) .state) i in
+    omega (arith, w, k)
 
 -- What a finish does to a reached thread: 2 sets the mark, and nothing clears it.
 visit-marks : (m : List Mark) (b i : ℕ) (s : State) → i < length (s .threads) → 0 < progress s i .rest
@@ -351,12 +355,13 @@ visit-marks m b i s l h =
     rw (reached m b i s h) (reached-pays m b i (heard b i s) P (λ _. counted-mark m b i s l ∙ k) p p)
 
 -- Of every thread with a rest, down to the chosen one or all where nobody is chosen, the finish mark is set then if it was or the byte is 2.
-pub reached-marks : (t : Table) → Legal t → (bs : List ℕ) (s : State) → Fits t s → (i : ℕ) → i < t .count → 0 < progress (release t (t .count) s) i .rest
-    → ((k : ℕ) → Names k (step t bs s .answer) → thread t k .priority ≤ thread t i .priority)
-    → progress (step t bs s .state) i .finished ≡ or (progress (release t (t .count) s) i .finished) (eqb (getD bs i 0) 2)
-unfolding step advance ticked tick
-reached-marks t g bs s f i l h n =
-    let long : length (release t (t .count) s .threads) ≡ 32 = release-length t (t .count) s ∙ f .long in
+pub reached-marks : (t : Table) → Legal t → (x : Input) (s : State) → Fits t s → (i : ℕ) → i < t .count → 0 < progress (release t (x .mask) s) i .rest
+    → ((k : ℕ) → Names k (step t x s .answer) → thread t k .priority ≤ thread t i .priority)
+    → progress (step t x s .state) i .finished ≡ or (progress (release t (x .mask) s) i .finished) (eqb (getD (x .bytes) i 0) 2)
+unfolding step advance ticked
+reached-marks t g x s f i l h n =
+    let long : length (release t (x .mask) s .threads) ≡ 32 = release-length t (x .mask) s ∙ f .long in
     let few : t .count ≤ 32 = g .count-high in
-    walk-leaves t (marks-of t) bs (λ k r p. r .finished ≡ or (p .finished) (eqb (getD bs k 0) 2)) (λ k z u v. visit-marks (marks-of t) (getD bs k 0) k z u v) i 256
-    (order t) (release t (t .count) s) (order-falls-from t) (rw long (omega arith)) (order-whole t g i l) h n
+    tick-keeps t (λ p. p .finished) aged-finished (walk (marks-of t) (x .bytes) (order t) (release t (x .mask) s) .state) i
+    ∙ walk-leaves t (marks-of t) (x .bytes) (λ k r p. r .finished ≡ or (p .finished) (eqb (getD (x .bytes) k 0) 2)) (λ k z u v. visit-marks (marks-of t) (getD (x .bytes) k 0) k z u v) i 256
+    (order t) (release t (x .mask) s) (order-falls-from t) (rw long (omega arith)) (order-whole t g i l) h n

@@ -12,21 +12,24 @@ use lib.Dec.{eqb}
 use Rattle.basis.specs.Tests.{pick}
 use Rattle.basis.proofs.TestLaws.{both-ways, either, by-test}
 use Rattle.table.specs.Mark.{marks-of}
+use Rattle.table.specs.Threads.{thread}
 use Rattle.table.specs.declared.Table.{Table}
+use Rattle.table.specs.declared.Thread.{Thread}
 use Rattle.table.specs.declared.Mark.{Mark}
 use Rattle.state.specs.State.{progress, put, Fits}
 use Rattle.state.specs.Release.{release}
-use Rattle.state.specs.Methods.{paid, pay, done, finish, counted, count, tick}
+use Rattle.state.specs.Methods.{paid, pay, done, finish, counted, count, aged, tick}
 use Rattle.state.specs.declared.Progress.{Progress}
 use Rattle.state.specs.declared.State.{State}
 use Rattle.state.proofs.ReleaseLaws.{release-length}
+use Rattle.state.proofs.TickLaws.{tick-each, tick-same, aged-ran, aged-execution}
 use Rattle.order.specs.Order.{order}
 use Rattle.walk.specs.Walk.{heard, runs, walked, decided, visit, chosen, walk}
-use Rattle.walk.specs.Step.{ticked, advance, step, ran-by}
+use Rattle.walk.specs.Step.{Input, ticked, advance, step, ran-by}
 use Rattle.walk.specs.declared.Answer.{Answer}
 use Rattle.walk.specs.declared.Answer.the-variants.{Ran, IdleFor, Idle}
 use Rattle.walk.specs.declared.Walked.{Walked}
-use Rattle.walk.proofs.WalkLaws.{visit-keeps, walk-on, walk-stop}
+use Rattle.walk.proofs.WalkLaws.{visit-keeps, walk-length, walk-on, walk-stop}
 use Rattle.walk.proofs.HeardLaws.{visit-passes}
 use Rattle.walk.proofs.ReachedLaws.{reached-pays, runs-exactly}
 use Rattle.walk.proofs.ChoiceLaws.{put-same, visit-others, heard-long}
@@ -52,6 +55,7 @@ pub record Moves (R : Progress → ℕ → Progress → Type 0) : Type 0 where
   pub pays : (p : Progress) → R (paid p) 0 p
   pub runs-once : (p : Progress) → 0 < p .execution → R (counted p) 1 p
   pub together : (r q p : Progress) (n : ℕ) → R r n q → R q 0 p → R r n p
+  pub ages : (th : Thread) (r p : Progress) (n : ℕ) → R r n p → R (aged th r) n p
 
 -- A visit that chooses nobody answers so.
 still : (a : Answer) → chosen a ≡ false → a ≡ Idle
@@ -124,15 +128,20 @@ module _ (R : Progress → ℕ → Progress → Type 0) (moves : Moves R) where
       rw (walk-on m bs j js s c) (moves .together _ _ _ _ w u))
 
   -- So a step moves the progress that the release left.
-  pub step-moves : (t : Table) (bs : List ℕ) (s : State) (i : ℕ) → i < length (s .threads)
-      → R (progress (step t bs s .state) i) (ran-by i (step t bs s .answer)) (progress (release t (t .count) s) i)
-  unfolding step advance ticked tick
-  step-moves t bs s i l = walk-moves (marks-of t) bs i (order t) (release t (t .count) s) (rw (release-length t (t .count) s) l)
+  pub step-moves : (t : Table) (x : Input) (s : State) (i : ℕ) → i < length (s .threads)
+      → R (progress (step t x s .state) i) (ran-by i (step t x s .answer)) (progress (release t (x .mask) s) i)
+  unfolding step advance ticked
+  step-moves t x s i l =
+      let r : State = release t (x .mask) s in
+      let w : Walked = walk (marks-of t) (x .bytes) (order t) r in
+      let n : ℕ = ran-by i (w .answer) in
+      tick-each t (w .state) (λ k p. k ≡ i → R p n (progress r i)) (λ k p u h e. moves .ages (thread t k) p _ n (h e))
+      (record { at = λ k e. rw e (walk-moves (marks-of t) (x .bytes) i (order t) r (rw (release-length t (x .mask) s) l)) }) .at i refl
 
 -- The count of a thread goes up by one in a step exactly if it ran, ..
-pub step-counts : (t : Table) (bs : List ℕ) (s : State) → t .count ≤ 32 → Fits t s → (i : ℕ) → i < t .count
-    → progress (step t bs s .state) i .ran ≡ progress (release t (t .count) s) i .ran + ran-by i (step t bs s .answer)
-step-counts t bs s few f i l = step-moves (λ r n p. r .ran ≡ p .ran + n) counts t bs s i (rw (f .long) (omega arith))
+pub step-counts : (t : Table) (x : Input) (s : State) → t .count ≤ 32 → Fits t s → (i : ℕ) → i < t .count
+    → progress (step t x s .state) i .ran ≡ progress (release t (x .mask) s) i .ran + ran-by i (step t x s .answer)
+step-counts t x s few f i l = step-moves (λ r n p. r .ran ≡ p .ran + n) counts t x s i (rw (f .long) (omega arith))
   where
     counts : Moves (λ r n p. r .ran ≡ p .ran + n)
     counts = record {
@@ -141,12 +150,13 @@ step-counts t bs s few f i l = step-moves (λ r n p. r .ran ≡ p .ran + n) coun
       pays = λ p. omega arith;
       runs-once = λ p h. refl;
       together = λ r q p n a b. omega (arith, a, b);
+      ages = λ th r p n a. aged-ran th r ∙ a;
     }
 
 -- .. and its rest of execution down by one.
-pub step-runs : (t : Table) (bs : List ℕ) (s : State) (i : ℕ) → i < length (s .threads)
-    → progress (step t bs s .state) i .execution + ran-by i (step t bs s .answer) ≡ progress (release t (t .count) s) i .execution
-step-runs t bs s i l = step-moves (λ r n p. r .execution + n ≡ p .execution) slows t bs s i l
+pub step-runs : (t : Table) (x : Input) (s : State) (i : ℕ) → i < length (s .threads)
+    → progress (step t x s .state) i .execution + ran-by i (step t x s .answer) ≡ progress (release t (x .mask) s) i .execution
+step-runs t x s i l = step-moves (λ r n p. r .execution + n ≡ p .execution) slows t x s i l
   where
     slows : Moves (λ r n p. r .execution + n ≡ p .execution)
     slows = record {
@@ -155,6 +165,7 @@ step-runs t bs s i l = step-moves (λ r n p. r .execution + n ≡ p .execution) 
       pays = λ p. omega arith;
       runs-once = λ p h. omega arith;
       together = λ r q p n a b. omega (arith, a, b);
+      ages = λ th r p n a. omega (arith, a, aged-execution th r);
     }
 
 -- A thread with no rest is passed.
@@ -176,8 +187,10 @@ walk-rests m bs i (j ∷ js) s z =
     let v : progress (visit m (getD bs j 0) j s .state) i ≡ progress s i = visit-rests m (getD bs j 0) i j s z in
     both-ways P _ _ _ v (walk-rests m bs i js _ (ap (λ (q : Progress). q .rest) v ∙ z) ∙ v)
 
--- A thread that has no rest after the release stays as it is.
-pub rest-stays : (t : Table) (bs : List ℕ) (s : State) (i : ℕ) → progress (release t (t .count) s) i .rest ≡ 0
-    → progress (step t bs s .state) i ≡ progress (release t (t .count) s) i
-unfolding step advance ticked tick
-rest-stays t bs s i z = walk-rests (marks-of t) bs i (order t) (release t (t .count) s) z
+-- A thread that has no rest after the release stays as it is, one tick later.
+pub rest-stays : (t : Table) (x : Input) (s : State) (i : ℕ) → progress (release t (x .mask) s) i .rest ≡ 0
+    → progress (step t x s .state) i ≡ progress (tick t (release t (x .mask) s)) i
+unfolding step advance ticked
+rest-stays t x s i z =
+    let r : State = release t (x .mask) s in
+    tick-same t _ r (walk-length (marks-of t) (x .bytes) (order t) r) i (walk-rests (marks-of t) (x .bytes) i (order t) r z)

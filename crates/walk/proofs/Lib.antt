@@ -7,3 +7,4 @@ pub mod ChoiceLaws
 pub mod CountLaws
 pub mod SameLaws
 pub mod RunLaws
+pub mod ReleasedLaws

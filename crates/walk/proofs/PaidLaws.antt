@@ -13,32 +13,33 @@ use Rattle.table.specs.Mark.{marks-of}
 use Rattle.table.specs.declared.Table.{Table}
 use Rattle.table.specs.declared.Mark.{Mark}
 use Rattle.state.specs.State.{progress, Fits}
-use Rattle.state.specs.Release.{release, releases}
+use Rattle.state.specs.Release.{release}
 use Rattle.state.specs.Methods.{pay, finish, count, tick}
 use Rattle.state.specs.Given.{Each}
 use Rattle.state.specs.declared.Progress.{Progress}
 use Rattle.state.specs.declared.State.{State}
 use Rattle.state.proofs.StateLaws.{put-each}
 use Rattle.state.proofs.ReleaseLaws.{release-spends}
+use Rattle.state.proofs.TickLaws.{tick-keeps, aged-rest}
 use Rattle.state.proofs.FitLaws.{release-fits}
 use Rattle.order.specs.Order.{order}
 use Rattle.order.proofs.OrderLaws.{order-below, Falling-from, order-falls-from}
 use Rattle.walk.specs.Walk.{heard, decided, visit, walk}
-use Rattle.walk.specs.Step.{ticked, advance, step}
-use Rattle.walk.specs.Paid.{pays, payments}
+use Rattle.walk.specs.Step.{Input, ticked, advance, step}
+use Rattle.walk.specs.Paid.{pays, payments, Unreleased}
 use Rattle.walk.specs.declared.Walked.{Walked}
 use Rattle.walk.proofs.WalkLaws.{walk-each}
-use Rattle.walk.proofs.StepLaws.{Spent, kept-spent, step-clock}
+use Rattle.walk.proofs.StepLaws.{Spent, kept-spent}
 
 -- No thread's rest rises in the walk, so what it pays is the whole difference.
-pub step-spends : (t : Table) (bs : List ℕ) (s : State) → Spent (release t (t .count) s) (step t bs s .state)
-unfolding step advance ticked tick
-step-spends t bs s =
-    let r : State = release t (t .count) s in
-    let w : Spent r (walk (marks-of t) bs (order t) r .state)
+pub step-spends : (t : Table) (x : Input) (s : State) → Spent (release t (x .mask) s) (step t x s .state)
+unfolding step advance ticked
+step-spends t x s =
+    let r : State = release t (x .mask) s in
+    let w : Spent r (walk (marks-of t) (x .bytes) (order t) r .state)
     = walk-each (marks-of t) (t .count) _ (kept-spent (t .count) r) (λ i p. p .rest ≤ progress r i .rest) (λ i p h. h)
-    (λ i p l h. h) bs (order t) r (order-below t) (record { at = λ i. le-refl _ }) in
-    record { at = w .at }
+    (λ i p l h. h) (x .bytes) (order t) r (order-below t) (record { at = λ i. le-refl _ }) in
+    record { at = λ i. rw (tick-keeps t (λ p. p .rest) aged-rest (walk (marks-of t) (x .bytes) (order t) r .state) i) (w .at i) }
 
 -- A walk down a falling list reaches each thread once.
 module _ (t : Table) (m : List Mark) (s : State) where
@@ -67,37 +68,36 @@ module _ (t : Table) (m : List Mark) (s : State) where
       let R : Walked → Type 0 = λ w. Each (λ i q. progress s i .rest ≤ q .rest + 1) (w .state) in
       both-ways R _ _ _ (record { at = λ j. v .at j .0 }) (walk-once (thread t i .priority) bs is _ (f .1) v)
 
-pub pays-once : (t : Table) (bs : List ℕ) (s : State) (i : ℕ) → pays t bs s i ≤ 1
-unfolding pays step advance ticked tick
-pays-once t bs s i =
-    let r : State = release t (t .count) s in
-    let w : Each (λ i q. progress r i .rest ≤ q .rest + 1) (walk (marks-of t) bs (order t) r .state)
-    = walk-once t (marks-of t) r 256 bs (order t) r (order-falls-from t) (record { at = λ i. (omega arith, λ u. le-refl _) }) in
-    omega (arith, w .at i)
+pub pays-once : (t : Table) (x : Input) (s : State) (i : ℕ) → pays t x s i ≤ 1
+unfolding pays step advance ticked
+pays-once t x s i =
+    let r : State = release t (x .mask) s in
+    let w : Each (λ i q. progress r i .rest ≤ q .rest + 1) (walk (marks-of t) (x .bytes) (order t) r .state)
+    = walk-once t (marks-of t) r 256 (x .bytes) (order t) r (order-falls-from t) (record { at = λ i. (omega arith, λ u. le-refl _) }) in
+    let k = tick-keeps t (λ p. p .rest) aged-rest (walk (marks-of t) (x .bytes) (order t) r .state) i in
+    omega (arith, w .at i, k)
 
 -- While thread i is not released it pays no more than the rest it has.
-payments-left : (t : Table) (i : ℕ) (more : List (List ℕ)) (s : State)
-    → ((c : ℕ) → s .clock ≤ c → c < s .clock + length more → releases t i c ≡ false) → payments t i more s ≤ progress s i .rest
+payments-left : (t : Table) (i : ℕ) (more : List Input) (s : State)
+    → Unreleased t i more s → payments t i more s ≤ progress s i .rest
 unfolding payments pays
 payments-left t i [] s n = zero-le
-payments-left t i (bs ∷ more) s n =
-    let q : step t bs s .state .clock ≡ s .clock + 1 = step-clock t bs s in
+payments-left t i (x ∷ more) s n =
     omega (
       arith,
-      step-spends t bs s .at i,
-      release-spends t i s (n (s .clock) (omega arith) (omega arith)),
-      payments-left t i more (step t bs s .state) (λ c h l. n c (omega arith) (omega arith)),
+      step-spends t x s .at i,
+      release-spends t i (x .mask) s (n .0),
+      payments-left t i more (step t x s .state) (n .1),
     )
 
 -- From a fitting state: W at most, over a first step and more in which thread i is not released.
-pub payments-most : (t : Table) (i : ℕ) (bs : List ℕ) (more : List (List ℕ)) (s : State) → i < t .count → Fits t s
-    → ((c : ℕ) → s .clock < c → c ≤ s .clock + length more → releases t i c ≡ false) → payments t i (bs ∷ more) s ≤ thread t i .budget
+pub payments-most : (t : Table) (i : ℕ) (x : Input) (more : List Input) (s : State) → i < t .count → Fits t s
+    → Unreleased t i more (step t x s .state) → payments t i (x ∷ more) s ≤ thread t i .budget
 unfolding payments pays
-payments-most t i bs more s l f n =
-    let q : step t bs s .state .clock ≡ s .clock + 1 = step-clock t bs s in
+payments-most t i x more s l f n =
     omega (
       arith,
-      step-spends t bs s .at i,
-      release-fits t s f .at i .rest-high l,
-      payments-left t i more (step t bs s .state) (λ c h k. n c (omega arith) (omega arith)),
+      step-spends t x s .at i,
+      release-fits t (x .mask) s f .at i .rest-high l,
+      payments-left t i more (step t x s .state) n,
     )

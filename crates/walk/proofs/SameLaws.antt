@@ -17,7 +17,7 @@ use Rattle.state.specs.Release.{release}
 use Rattle.state.specs.declared.State.{State}
 use Rattle.order.specs.Order.{order}
 use Rattle.walk.specs.Walk.{decided, visit, walk}
-use Rattle.walk.specs.Step.{advance, step}
+use Rattle.walk.specs.Step.{Input, advance, step}
 
 module _ (m n : List Mark) (same : (i : ℕ) → is-set m i ≡ is-set n i) where
   visit-sets : (b i : ℕ) (s : State) → visit m b i s ≡ visit n b i s
@@ -45,7 +45,7 @@ bare-same t i =
     (λ e. ap (λ (m : Mark). m .set) (listed-past (bare t) (t .count) (32 - t .count) i (mark nothing) (ltb-false _ _ e)
     ∙ sym (listed-past (λ k. mark (protects t k)) (t .count) (32 - t .count) i (mark nothing) (ltb-false _ _ e))))
 
--- The step by those marks is the step, of every table, from every state and for all bytes: the schedule stayed as it was.
-pub same-schedule : (t : Table) (bs : List ℕ) (s : State) → advance t (bare-marks t) (order t) bs s ≡ step t bs s
+-- The step by those marks is the step, of every table, from every state, for all events and bytes: the schedule stayed as it was.
+pub same-schedule : (t : Table) (x : Input) (s : State) → advance t (bare-marks t) (order t) x s ≡ step t x s
 unfolding step advance
-same-schedule t bs s = rw (walk-sets (bare-marks t) (marks-of t) (bare-same t) bs (order t) (release t (t .count) s))
+same-schedule t x s = rw (walk-sets (bare-marks t) (marks-of t) (bare-same t) (x .bytes) (order t) (release t (x .mask) s))

@@ -1,7 +1,7 @@
 -- A step hands back a state that fits again, one clock on, and chooses only a thread that had a rest when the walk began: no
 -- visit raises a rest, so a thread reached with one had it before.
 use Prim.Native.Nat.{ℕ, _+_, _-_, _≤_, _<_}
-use mathlib.Core.Path.{_≡_, refl, sym, subst}
+use mathlib.Core.Path.{_≡_, refl, sym, _∙_, subst}
 use mathlib.Core.List.{List, [], _∷_}
 use mathlib.Core.Bool.{Bool, true, false}
 use native.Mathlib.Omega.{arith}
@@ -19,11 +19,12 @@ use Rattle.state.specs.Methods.{tick}
 use Rattle.state.specs.Given.{Each}
 use Rattle.state.specs.declared.State.{State}
 use Rattle.state.proofs.ReleaseLaws.{release-clock, release-length}
-use Rattle.state.proofs.FitLaws.{release-fits, later-fits}
+use Rattle.state.proofs.FitLaws.{release-fits, aged-fits, later-fits}
+use Rattle.state.proofs.TickLaws.{tick-length, tick-each}
 use Rattle.order.specs.Order.{order, Below}
 use Rattle.order.proofs.OrderLaws.{order-below}
 use Rattle.walk.specs.Walk.{decided, visit, chosen, walk}
-use Rattle.walk.specs.Step.{ticked, advance, step, Rested}
+use Rattle.walk.specs.Step.{Input, ticked, advance, step, Rested}
 use Rattle.walk.specs.declared.Answer.{Answer}
 use Rattle.walk.specs.declared.Answer.the-variants.{Ran, IdleFor, Idle}
 use Rattle.walk.specs.declared.Walked.{Walked}
@@ -36,45 +37,53 @@ module _ (t : Table) (c : ℕ) where
       rest-high = λ u. omega (arith, h .rest-high u);
       execution-high = h .execution-high;
       ran-high = h .ran-high;
+      since-high = h .since-high;
       unused = λ u. absurd (omega arith);
     };
-    finishes = λ i p l h.
-        record { rest-high = h .rest-high; execution-high = h .execution-high; ran-high = h .ran-high; unused = λ u. absurd (omega arith) };
+    finishes = λ i p l h. record {
+      rest-high = h .rest-high;
+      execution-high = h .execution-high;
+      ran-high = h .ran-high;
+      since-high = h .since-high;
+      unused = λ u. absurd (omega arith);
+    };
   }
 
-module _ (t : Table) (m : List Mark) (is bs : List ℕ) (s : State) where
-  pub advance-clock : advance t m is bs s .state .clock ≡ s .clock + 1
+module _ (t : Table) (m : List Mark) (is : List ℕ) (x : Input) (s : State) where
+  pub advance-clock : advance t m is x s .state .clock ≡ s .clock + 1
   unfolding advance ticked tick
   advance-clock = rw (walk-clock, release-clock)
 
   -- a step over any list of threads of the table
-  pub advance-fits : Below (t .count) is → Fits t s → s .clock < last-clock → Fits t (advance t m is bs s .state)
-  unfolding advance ticked tick
+  pub advance-fits : Below (t .count) is → Fits t s → s .clock < last-clock → Fits t (advance t m is x s .state)
+  unfolding advance ticked
   advance-fits l f h =
       let c = s .clock in
-      let w : Each (Place-fits t (c + 1)) (walk m bs is (release t (t .count) s) .state)
+      let w : Each (Place-fits t (c + 1)) (walk m (x .bytes) is (release t (x .mask) s) .state)
       = walk-each m (t .count) (Place-fits t c) (kept-fit t c) (Place-fits t (c + 1)) (later-fits t c)
       (λ i p l k. record {
         rest-high = k .rest-high;
         execution-high = λ u. omega (arith, k .execution-high u);
         ran-high = omega (arith, k .ran-high);
+        since-high = k .since-high;
         unused = λ u. absurd (omega arith);
       })
-      bs is _ l (release-fits t s f) in
+      (x .bytes) is _ l (release-fits t (x .mask) s f) in
+      let a : Each (Place-fits t (c + 1)) (advance t m is x s .state) = tick-each t _ (Place-fits t (c + 1)) (aged-fits t (c + 1)) w in
       record {
-        clock-high = rw (walk-clock, release-clock) (omega arith);
-        long = rw (walk-length, release-length) (f .long);
-        places = λ i. subst (λ (k : ℕ). Place-fits t k i (progress (walk m bs is (release t (t .count) s) .state) i)) (sym advance-clock) (w .at i);
+        clock-high = rw advance-clock (omega arith);
+        long = tick-length t _ ∙ walk-length m (x .bytes) is (release t (x .mask) s) ∙ release-length t (x .mask) s ∙ f .long;
+        places = λ i. subst (λ (k : ℕ). Place-fits t k i (progress (advance t m is x s .state) i)) (sym advance-clock) (a .at i);
       }
 
-module _ (t : Table) (bs : List ℕ) (s : State) where
-  pub step-clock : step t bs s .state .clock ≡ s .clock + 1
+module _ (t : Table) (x : Input) (s : State) where
+  pub step-clock : step t x s .state .clock ≡ s .clock + 1
   unfolding step
-  step-clock = advance-clock t (marks-of t) (order t) bs s
+  step-clock = advance-clock t (marks-of t) (order t) x s
 
-  pub step-fits : Fits t s → s .clock < last-clock → Fits t (step t bs s .state)
+  pub step-fits : Fits t s → s .clock < last-clock → Fits t (step t x s .state)
   unfolding step
-  step-fits f h = advance-fits t (marks-of t) (order t) bs s (order-below t) f h
+  step-fits f h = advance-fits t (marks-of t) (order t) x s (order-below t) f h
 
 -- No thread has more rest than in s.
 abbrev pub Spent : State → State → Type 0
@@ -134,8 +143,8 @@ rested-of Idle s e = record {
 }
 
 -- The thread chosen had a rest above 0 when the walk began.
-pub chosen-rested : (t : Table) (bs : List ℕ) (s : State) → Rested (step t bs s .answer) (release t (t .count) s)
+pub chosen-rested : (t : Table) (x : Input) (s : State) → Rested (step t x s .answer) (release t (x .mask) s)
 unfolding step advance ticked
-chosen-rested t bs s =
-    let r = release t (t .count) s in
-    rested-of _ r (walk-rested (marks-of t) bs r (order t) r (record { at = λ i. le-refl _ }))
+chosen-rested t x s =
+    let r = release t (x .mask) s in
+    rested-of _ r (walk-rested (marks-of t) (x .bytes) r (order t) r (record { at = λ i. le-refl _ }))

@@ -2,3 +2,4 @@ pub mod Walk
 pub mod Step
 pub mod Heard
 pub mod Paid
+pub mod Releases

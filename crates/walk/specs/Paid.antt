@@ -1,22 +1,29 @@
 -- What a thread pays, in one step and over steps in turn, and how often it runs.
 use Prim.Native.Nat.{ℕ, _+_, _-_}
+use mathlib.Core.Path.{_≡_}
 use mathlib.Core.List.{List, [], _∷_}
+use mathlib.Core.Bool.{false}
 use Rattle.table.specs.declared.Table.{Table}
 use Rattle.state.specs.State.{progress}
-use Rattle.state.specs.Release.{release}
+use Rattle.state.specs.Release.{release, releases}
 use Rattle.state.specs.declared.State.{State}
-use Rattle.walk.specs.Step.{step, ran-by}
+use Rattle.walk.specs.Step.{Input, step, ran-by}
 
 -- What thread i pays in a step: the rest it has after the release, less the rest it has after the step.
-unfoldable pub pays : Table → List ℕ → State → ℕ → ℕ
-pays t bs s i = progress (release t (t .count) s) i .rest - progress (step t bs s .state) i .rest
+unfoldable pub pays : Table → Input → State → ℕ → ℕ
+pays t x s i = progress (release t (x .mask) s) i .rest - progress (step t x s .state) i .rest
 
--- What thread i pays in all, over a step for each list of bytes.
-unfoldable pub payments : Table → ℕ → List (List ℕ) → State → ℕ
+-- What thread i pays in all, over steps in turn.
+unfoldable pub payments : Table → ℕ → List Input → State → ℕ
 payments t i [] s = 0
-payments t i (bs ∷ more) s = pays t bs s i + payments t i more (step t bs s .state)
+payments t i (x ∷ more) s = pays t x s i + payments t i more (step t x s .state)
 
--- How often thread i runs, over a step for each list of bytes.
-unfoldable pub runs-of : Table → ℕ → List (List ℕ) → State → ℕ
+-- How often thread i runs, over steps in turn.
+unfoldable pub runs-of : Table → ℕ → List Input → State → ℕ
 runs-of t i [] s = 0
-runs-of t i (bs ∷ more) s = ran-by i (step t bs s .answer) + runs-of t i more (step t bs s .state)
+runs-of t i (x ∷ more) s = ran-by i (step t x s .answer) + runs-of t i more (step t x s .state)
+
+-- None of these steps is a release of thread i.
+abbrev pub Unreleased : Table → ℕ → List Input → State → Type 0
+Unreleased t i [] s = Unit {0}
+Unreleased t i (x ∷ more) s = (releases t i (x .mask) s ≡ false) × Unreleased t i more (step t x s .state)

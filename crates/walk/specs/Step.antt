@@ -19,17 +19,26 @@ use Rattle.walk.specs.declared.Answer.{Answer}
 use Rattle.walk.specs.declared.Answer.the-variants.{Ran, IdleFor, Idle}
 use Rattle.walk.specs.declared.Walked.{Walked}
 
+-- What a step is handed: a public mask of events, bit i for thread i, and the step bytes in table order.
+pub record Input : Type 0 where
+  pub mask : ℕ
+  pub bytes : List ℕ
+
+-- Bytes, and no event.
+abbrev pub quiet : List ℕ → Input
+quiet bs = record { mask = 0; bytes = bs }
+
 -- 5. The clock goes up by one.
-unfoldable pub ticked : Walked → Walked
-ticked w = walked (w .answer) (tick (w .state))
+unfoldable pub ticked : Table → Walked → Walked
+ticked t w = walked (w .answer) (tick t (w .state))
 
 -- A step whose walk goes over the threads is, with the marks m.
-unfoldable pub advance : Table → List Mark → List ℕ → List ℕ → State → Walked
-advance t m is bs s = ticked (walk m bs is (release t (t .count) s))
+unfoldable pub advance : Table → List Mark → List ℕ → Input → State → Walked
+advance t m is x s = ticked t (walk m (x .bytes) is (release t (x .mask) s))
 
--- One step: the walk goes from the highest priority down with the table's marks, step bytes bs in table order.
-unfoldable pub step : Table → List ℕ → State → Walked
-step t bs s = advance t (marks-of t) (order t) bs s
+-- One step: the walk goes from the highest priority down with the table's marks.
+unfoldable pub step : Table → Input → State → Walked
+step t x s = advance t (marks-of t) (order t) x s
 
 -- The thread that an answer names has a rest above 0.
 pub record Rested (a : Answer) (s : State) : Type 0 where

@@ -47,21 +47,21 @@ pub fn prepare(t: Table) -> Prepared
     Prepared { order, marks }
 }
 
-// One step of a legal table from a fitting state, with one byte a thread.
-pub fn advance(t: Table, p: Prepared, s: State, bytes: &[u8]) -> Walked
+// One step of a legal table from a fitting state, with a mask of events and one byte a thread.
+pub fn advance(t: Table, p: Prepared, s: State, mask: u32, bytes: &[u8]) -> Walked
     requires { ⌜ Usable t ⌝ }
     requires { ⌜ (p .order .count ≤ 32) × Below (length (now bytes)) (ranked (p .order)) ⌝ }
     requires { ⌜ Fits t s × (s .clock < last-clock) × (length (now bytes) ≤ 32) ⌝ }
-    ensures { λ r. ⌜ r ≡ advance t (p .marks) (ranked (p .order)) (now (bytes .entry)) s ⌝ }
+    ensures { λ r. ⌜ r ≡ advance t (p .marks) (ranked (p .order)) (record { mask = mask; bytes = now (bytes .entry) }) s ⌝ }
 {
     let o = p.order;
     let marks = p.marks;
-    let fresh = s.release(t);
+    let fresh = s.release(t, mask);
     let w = walk(marks, fresh, o, bytes);
     let a = w.answer;
     let after = w.state;
     Walked {
         answer: a,
-        state: after.tick(),
+        state: after.tick(t),
     }
 }

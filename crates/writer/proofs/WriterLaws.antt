@@ -15,14 +15,14 @@ use Rattle.basis.specs.Tests.{pick}
 use Rattle.basis.specs.Search.{listed}
 use Rattle.basis.specs.Told.{Told, answered, refused}
 use Rattle.basis.proofs.TestLaws.{by-test}
-use Rattle.table.specs.Threads.{none, fields}
+use Rattle.table.specs.Threads.{none}
 use Rattle.table.specs.Legal.{legal}
 use Rattle.table.specs.declared.Table.{Table}
 use Rattle.table.specs.declared.Thread.{Thread}
 use Rattle.writer.specs.declared.Writing.{Writing}
 use Rattle.writer.specs.declared.Writing.the-variants.{Written, NotLegal, NoRoom}
 use Rattle.numeral.specs.Number.{encode, encode-all}
-use Rattle.writer.specs.Format.{row-numbers, thread-numbers, numbers, bytes}
+use Rattle.writer.specs.Format.{row-numbers, written-fields, thread-numbers, numbers, bytes}
 use Rattle.writer.specs.Buffer.{Room, Put}
 use Rattle.writer.specs.Writer.{overlaid, writing, written, told, Laid}
 use Rattle.numeral.proofs.NumberLaws.{encode-one, encode-all-append, encode-all-last}
@@ -92,36 +92,36 @@ rows-length rows i = ap length (rows-next rows i) ∙ length-append (encode-all 
 pub rows-room : (rows : List ℕ) (n i : ℕ) → i < n → length (encode-all (row-numbers rows i) ++ encode (getD rows i 0)) ≤ length (encode-all (row-numbers rows n))
 rows-room rows n = grown-room (λ i. encode-all (row-numbers rows i)) (λ i. encode (getD rows i 0)) n (λ i h. rows-next rows i)
 
-pub threads-next : (ths : List Thread) (i : ℕ) →
-    encode-all (thread-numbers ths (i + 1)) ≡ encode-all (thread-numbers ths i) ++ encode-all (fields (getD ths i none))
+pub threads-next : (v : ℕ) (ths : List Thread) (i : ℕ) →
+    encode-all (thread-numbers v ths (i + 1)) ≡ encode-all (thread-numbers v ths i) ++ encode-all (written-fields v (getD ths i none))
 unfolding thread-numbers
-threads-next ths i = rw add-one (encode-all-append (thread-numbers ths i) (fields (getD ths i none)))
+threads-next v ths i = rw add-one (encode-all-append (thread-numbers v ths i) (written-fields v (getD ths i none)))
 
-pub threads-length : (ths : List Thread) (i : ℕ) →
-    length (encode-all (thread-numbers ths (i + 1))) ≡ length (encode-all (thread-numbers ths i)) + length (encode-all (fields (getD ths i none)))
-threads-length ths i = ap length (threads-next ths i) ∙ length-append (encode-all (thread-numbers ths i)) (encode-all (fields (getD ths i none)))
+pub threads-length : (v : ℕ) (ths : List Thread) (i : ℕ) →
+    length (encode-all (thread-numbers v ths (i + 1))) ≡ length (encode-all (thread-numbers v ths i)) + length (encode-all (written-fields v (getD ths i none)))
+threads-length v ths i = ap length (threads-next v ths i) ∙ length-append (encode-all (thread-numbers v ths i)) (encode-all (written-fields v (getD ths i none)))
 
-pub threads-room : (ths : List Thread) (n i : ℕ) → i < n →
-    length (encode-all (thread-numbers ths i) ++ encode-all (fields (getD ths i none))) ≤ length (encode-all (thread-numbers ths n))
-threads-room ths n =
-    grown-room (λ i. encode-all (thread-numbers ths i)) (λ i. encode-all (fields (getD ths i none))) n (λ i h. threads-next ths i)
+pub threads-room : (v : ℕ) (ths : List Thread) (n i : ℕ) → i < n →
+    length (encode-all (thread-numbers v ths i) ++ encode-all (written-fields v (getD ths i none))) ≤ length (encode-all (thread-numbers v ths n))
+threads-room v ths n =
+    grown-room (λ i. encode-all (thread-numbers v ths i)) (λ i. encode-all (written-fields v (getD ths i none))) n (λ i h. threads-next v ths i)
 
 -- The three parts in which the bytes of a table are written.
 abbrev pub head-bytes : Table → List ℕ
-head-bytes t = encode-all (1 ∷ t .domains ∷ t .count ∷ [])
+head-bytes t = encode-all (t .version ∷ t .domains ∷ t .count ∷ [])
 
 abbrev pub rows-bytes : Table → List ℕ
 rows-bytes t = encode-all (row-numbers (t .rows) (t .domains))
 
 abbrev pub threads-bytes : Table → List ℕ
-threads-bytes t = encode-all (thread-numbers (t .threads) (t .count))
+threads-bytes t = encode-all (thread-numbers (t .version) (t .threads) (t .count))
 
 pub bytes-parts : (t : Table) → bytes t ≡ (head-bytes t ++ rows-bytes t) ++ threads-bytes t
 unfolding bytes numbers
 bytes-parts t =
-    let h : List ℕ = 1 ∷ t .domains ∷ t .count ∷ [] in
+    let h : List ℕ = t .version ∷ t .domains ∷ t .count ∷ [] in
     let r : List ℕ = row-numbers (t .rows) (t .domains) in
-    let s : List ℕ = thread-numbers (t .threads) (t .count) in
+    let s : List ℕ = thread-numbers (t .version) (t .threads) (t .count) in
     encode-all-append h (r ++ s) ∙ rw (encode-all-append r s) (sym (append-assoc (encode-all h) (encode-all r) (encode-all s)))
 
 pub parts-length : (t : Table) → length (bytes t) ≡ length (head-bytes t) + length (rows-bytes t) + length (threads-bytes t)
@@ -133,10 +133,10 @@ pub parts-room : (t : Table) → (length (head-bytes t) ≤ length (bytes t)) ×
 parts-room t = omega (arith, parts-length t, ap length (bytes-parts t), length-append (head-bytes t) (rows-bytes t))
 
 -- Version, domains and count of a table that is not too large take a byte each.
-pub bytes-length : (t : Table) → t .domains ≤ 16 → t .count ≤ 32 → length (bytes t) ≡ 3 + length (rows-bytes t) + length (threads-bytes t)
+pub bytes-length : (t : Table) → t .version ≤ 2 → t .domains ≤ 16 → t .count ≤ 32 → length (bytes t) ≡ 3 + length (rows-bytes t) + length (threads-bytes t)
 unfolding encode-all
-bytes-length t h k =
-    rw (encode-one 1 (omega arith), encode-one (t .domains) (omega arith), encode-one (t .count) (omega arith)) at (parts-length t)
+bytes-length t g h k =
+    rw (encode-one (t .version) (omega arith), encode-one (t .domains) (omega arith), encode-one (t .count) (omega arith)) at (parts-length t)
 
 -- What is answered, and what the buffer then holds, in the three cases.
 module _ (b : List ℕ) (at : ℕ) (t : Table) where

@@ -25,13 +25,13 @@ use Rattle.actuator.proofs.refuse.Reads as refuse-reads
 use Rattle.scheduler.proofs.step.Reads as step-reads
 
 -- What the step gave, where it was made and where it was refused.
-made : (c : tie.After-o) → taken (c .before .before .before .before .args .t) (c .before .before .before .before .args .bytes .now) (c .before .before .before .before .args .s)
+made : (c : tie.After-o) → taken (c .before .before .before .before .args .t) (record { mask = c .before .before .before .before .args .mask; bytes = c .before .before .before .before .args .bytes .now }) (c .before .before .before .before .args .s)
     ≡ record { told = answered (values (c .o .given .0 .0)); state = c .before .before .step .result .state }
 made c =
     let r = c .before .before .step .result in
     sym (c .before .before .step .ensures) ∙ ap (λ (o : Outcome). record { told = told o; state = r .state }) (c .o .given .1)
 
-not-made : (c : tie.After-o2) → taken (c .before .before .before .before .args .t) (c .before .before .before .before .args .bytes .now) (c .before .before .before .before .args .s) .told
+not-made : (c : tie.After-o2) → taken (c .before .before .before .before .args .t) (record { mask = c .before .before .before .before .args .mask; bytes = c .before .before .before .before .args .bytes .now }) (c .before .before .before .before .args .s) .told
     ≡ refused (c .o2 .given .0 .0)
 not-made c = ap (λ (x : Taken). x .told) (sym (c .before .before .step .ensures)) ∙ ap told (c .o2 .given .1)
 

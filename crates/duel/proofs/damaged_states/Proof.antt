@@ -1,4 +1,4 @@
--- `duel::damaged_states` is safe and ends: kind counts up to 5.
+-- `duel::damaged_states` is safe and ends: kind counts up to 6.
 use Prim.Native.Nat.{_-_}
 use borrow.Author.Needs.{needs}
 use Rattle.duel.proofs.damaged_states.Statement.{statement}
@@ -8,7 +8,7 @@ abbrev Inv-loop : tie.InvT-loop
 Inv-loop tally₀ seed t kind₀ tally kind = Unit {0}
 
 abbrev μ-loop : tie.MeasureT-loop
-μ-loop tally₀ seed t kind₀ tally kind = 5 - kind
+μ-loop tally₀ seed t kind₀ tally kind = 6 - kind
 
 loop-holds : tie.Need-loop-holds Inv-loop μ-loop
 loop-holds c = search needs

@@ -1,4 +1,4 @@
--- `duel::damaged_tables` is safe and ends: kind counts up to 8.
+-- `duel::damaged_tables` is safe and ends: kind counts up to 9.
 use Prim.Native.Nat.{_-_}
 use borrow.Author.Needs.{needs}
 use Rattle.duel.proofs.damaged_tables.Statement.{statement}
@@ -8,7 +8,7 @@ abbrev Inv-loop : tie.InvT-loop
 Inv-loop tally₀ seed t kind₀ tally kind = Unit {0}
 
 abbrev μ-loop : tie.MeasureT-loop
-μ-loop tally₀ seed t kind₀ tally kind = 8 - kind
+μ-loop tally₀ seed t kind₀ tally kind = 9 - kind
 
 loop-holds : tie.Need-loop-holds Inv-loop μ-loop
 loop-holds c = search needs

@@ -13,14 +13,14 @@ abbrev μ-loop : tie.MeasureT-loop
 table-requires : tie.Need-table-requires Inv-loop μ-loop
 table-requires c κs = search needs
 
+fresh-requires : tie.Need-fresh-requires Inv-loop μ-loop
+fresh-requires c κs = search needs
+
 count-requires : tie.Need-count-requires Inv-loop μ-loop
 count-requires c κs = search needs
 
 part-requires : tie.Need-part-requires Inv-loop μ-loop
 part-requires c κs = search needs
-
-fresh-requires : tie.Need-fresh-requires Inv-loop μ-loop
-fresh-requires c κs = search needs
 
 run-requires : tie.Need-run-requires Inv-loop μ-loop
 run-requires c κs = search needs
@@ -77,9 +77,9 @@ play-table-spec =
     Inv-loop
     μ-loop
     table-requires
+    fresh-requires
     count-requires
     part-requires
-    fresh-requires
     run-requires
     loop-holds
     part-requires-2

@@ -1,4 +1,4 @@
--- `duel::run` is safe and ends: k counts up to steps.
+-- `duel::run` is safe and ends: k counts up to the number of steps.
 use Prim.Native.Nat.{_-_}
 use borrow.Author.Needs.{needs}
 use Rattle.duel.proofs.run.Statement.{statement}
@@ -19,6 +19,9 @@ part-requires c κs = search needs
 bytes-requires : tie.Need-bytes-requires Inv-loop μ-loop
 bytes-requires c κs = search needs
 
+mask-requires : tie.Need-mask-requires Inv-loop μ-loop
+mask-requires c κs = search needs
+
 slice-aggregate-step : tie.Need-slice-aggregate-step Inv-loop μ-loop
 slice-aggregate-step c = search needs
 
@@ -27,6 +30,9 @@ step-requires c κs = search needs
 
 count-requires : tie.Need-count-requires Inv-loop μ-loop
 count-requires c κs = search needs
+
+events-requires : tie.Need-events-requires Inv-loop μ-loop
+events-requires c κs = search needs
 
 add-k : tie.Need-add-k Inv-loop μ-loop
 add-k c = search needs
@@ -49,9 +55,11 @@ run-spec =
     loop-holds
     part-requires
     bytes-requires
+    mask-requires
     slice-aggregate-step
     step-requires
     count-requires
+    events-requires
     add-k
     loop-less
     loop-again

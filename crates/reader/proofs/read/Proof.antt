@@ -19,9 +19,15 @@ use Rattle.reader.proofs.parts.refused_reading.Reads as refused-reading
 use Rattle.flow.proofs.first_gap.Reads as first-gap-reads
 
 -- What was read after the rows, by the parts that the code has in hand.
-from-rows : (c : tie.After-struct-known3) → reading (c .before .before .before .before .before .before .before .before .before .before .args .s .now)
-    ≡ after-rows (c .before .before .before .before .before .before .before .before .before .before .args .s .now) (c .before .before .before .before .before .before .before .read-ranged2 .result .value) (c .before .before .before .before .before .before .read-ranged3 .result .value) (c .before .before .before .read-rows .result)
-from-rows c = reading-is _ _ _ _ _ (c .before .before .before .before .before .before .before .before .read-ranged .ensures) (c .before .before .before .before .before .before .before .read-ranged2 .ensures) (c .before .before .before .before .before .before .read-ranged3 .ensures) (c .before .before .before .read-rows .ensures)
+from-rows : (c : tie.After-struct-known4)
+    → let r = c .before .before .before in
+    let n = r .before .before .before .before in
+    let s = n .before .before .before .before .args .s .now in
+    reading s ≡ after-rows s (n .before .before .read-ranged .result .value) (n .before .read-ranged2 .result .value) (n .read-ranged3 .result .value) (r .read-rows .result)
+from-rows c =
+    let r = c .before .before .before in
+    let n = r .before .before .before .before in
+    reading-is _ _ _ _ _ (n .before .before .read-ranged .ensures) (n .before .read-ranged2 .ensures) (n .read-ranged3 .ensures) (r .read-rows .ensures)
 
 read-ranged-requires : tie.Need-read-ranged-requires
 read-ranged-requires c κs = search needs
@@ -32,14 +38,17 @@ read-ranged-requires-2 c κs = search needs
 read-ranged-requires-3 : tie.Need-read-ranged-requires-3
 read-ranged-requires-3 c κs = search needs
 
+cast-version : tie.Need-cast-version
+cast-version c = record { fits = ranged-small _ _ _ _ _ 256 (c .before .before .before .read-ranged .ensures) (omega arith) }
+
 cast-domains : tie.Need-cast-domains
-cast-domains c = record { fits = ranged-small _ _ _ _ _ 256 (c .before .before .read-ranged2 .ensures) (omega arith) }
+cast-domains c = record { fits = ranged-small _ _ _ _ _ 256 (c .before .before .before .read-ranged2 .ensures) (omega arith) }
 
 cast-count : tie.Need-cast-count
-cast-count c = record { fits = ranged-small _ _ _ _ _ 256 (c .before .before .read-ranged3 .ensures) (omega arith) }
+cast-count c = record { fits = ranged-small _ _ _ _ _ 256 (c .before .before .before .read-ranged3 .ensures) (omega arith) }
 
 read-rows-requires : tie.Need-read-rows-requires
-read-rows-requires c κs = ranged-most _ _ _ _ _ (c .before .before .before .read-ranged2 .ensures)
+read-rows-requires c κs = ranged-most _ _ _ _ _ (c .before .before .before .before .read-ranged2 .ensures)
 
 refused-reading-requires : tie.Need-refused-reading-requires
 refused-reading-requires c κs = search needs
@@ -59,17 +68,17 @@ refused-reading-requires-2 c κs = search needs
 
 returns-2 : tie.Need-returns-2
 unfolding after-rows pick
-returns-2 c = rw (from-rows (c .before .before .before .before .before .before), eq-eqb _ _ (c .before .before .before .before .before .if1 .left), gap-sought (c .before .before .before .before .first-gap .result) (first-gap (c .before .before .before .before .before .before .before .before .before .read-rows .result .rows) (c .before .before .before .before .before .before .before .before .before .before .before .before .before .read-ranged2 .result .value)) (c .before .before .before .before .first-gap .ensures), c .before .before .gap .given .1) (c .refused-reading2 .ensures)
+returns-2 c = rw (from-rows (c .before .before .before .before .before .before), eq-eqb _ _ (c .before .before .before .before .before .if1 .left), gap-sought (c .before .before .before .before .first-gap .result) (first-gap (c .before .before .before .before .before .before .before .before .before .read-rows .result .rows) (c .before .before .before .before .before .before .before .before .before .before .before .before .before .before .read-ranged2 .result .value)) (c .before .before .before .before .first-gap .ensures), c .before .before .gap .given .1) (c .refused-reading2 .ensures)
 
 enum-told : tie.Need-enum-told
 enum-told c = search needs
 
 read-rest-requires : tie.Need-read-rest-requires
-read-rest-requires c κs = ranged-most _ _ _ _ _ (c .before .before .before .before .before .before .before .before .before .before .read-ranged3 .ensures)
+read-rest-requires c κs = ranged-most _ _ _ _ _ (c .before .before .before .before .before .before .before .before .before .before .before .read-ranged3 .ensures)
 
 returns-3 : tie.Need-returns-3
 unfolding after-rows pick
-returns-3 c = rw (from-rows (c .before .before .before .before .before), eq-eqb _ _ (c .before .before .before .before .if1 .left), gap-sought (c .before .before .before .first-gap .result) (first-gap (c .before .before .before .before .before .before .before .before .read-rows .result .rows) (c .before .before .before .before .before .before .before .before .before .before .before .before .read-ranged2 .result .value)) (c .before .before .before .first-gap .ensures), c .before .enum-told .given .1) (c .read-rest .ensures)
+returns-3 c = rw (from-rows (c .before .before .before .before .before), eq-eqb _ _ (c .before .before .before .before .if1 .left), gap-sought (c .before .before .before .first-gap .result) (first-gap (c .before .before .before .before .before .before .before .before .read-rows .result .rows) (c .before .before .before .before .before .before .before .before .before .before .before .before .before .read-ranged2 .result .value)) (c .before .before .before .first-gap .ensures), c .before .enum-told .given .1) (c .read-rest .ensures)
 
 pub read-spec : {M : Type 1} → statement M
 read-spec =
@@ -78,6 +87,7 @@ read-spec =
     read-ranged-requires
     read-ranged-requires-2
     read-ranged-requires-3
+    cast-version
     cast-domains
     cast-count
     read-rows-requires

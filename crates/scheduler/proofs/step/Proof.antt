@@ -13,7 +13,7 @@ use Rattle.state.specs.Given.{Usable}
 use Rattle.order.specs.Order.{Below}
 use Rattle.order.specs.Order.{order}
 use Rattle.walk.specs.Step.{step}
-use Rattle.scheduler.specs.Taken.{taken}
+use Rattle.scheduler.specs.Taken.{mask-ok, taken}
 use Rattle.order.proofs.OrderLaws.{order-below}
 use Rattle.state.proofs.FitLaws.{fits-sound, usable}
 use borrow.Author.Needs.{needs}
@@ -24,6 +24,7 @@ use Rattle.scheduler.proofs.step.Lts as lts
 use Rattle.state.proofs.fits.Reads as fits-reads
 use Rattle.walk.proofs.prepare.Reads as prepare-reads
 use Rattle.scheduler.proofs.refuse.Reads as refuse-reads
+use Rattle.scheduler.proofs.mask_passes.Reads as mask-passes-reads
 use Rattle.walk.proofs.advance.Reads as advance-reads
 use Rattle.table.proofs.legal.Reads as legal-reads
 
@@ -44,8 +45,12 @@ ready c = usable _ (sized (c .before .before .before)) (lawful c)
 fitting : (c : tie.Else2) → fits (c .before .before .before .before .before .args .t) (c .before .before .before .before .before .args .s) ≡ true
 fitting c = sym (c .before .fits2 .ensures) ∙ not-false _ (c .if2 .left)
 
+masked : (c : tie.Else4) → mask-ok (c .before .before .before .before .before .before .before .before .before .args .t) (c .before .before .before .before .before .before .before .before .before .args .mask) ≡ true
+masked c = sym (c .before .mask-passes .ensures) ∙ not-false _ (c .if4 .left)
+
 -- The prepared step is the step.
-stepped : (c : tie.After-advance) → c .advance .result ≡ step (c .before .before .before .before .before .before .before .before .before .before .before .args .t) (c .before .before .before .before .before .before .before .before .before .before .before .args .bytes .now) (c .before .before .before .before .before .before .before .before .before .before .before .args .s)
+stepped : (c : tie.After-advance) → c .advance .result
+    ≡ step (c .before .before .before .before .before .before .before .before .before .before .before .before .before .args .t) (record { mask = c .before .before .before .before .before .before .before .before .before .before .before .before .before .args .mask; bytes = c .before .before .before .before .before .before .before .before .before .before .before .before .before .args .bytes .now }) (c .before .before .before .before .before .before .before .before .before .before .before .before .before .args .s)
 unfolding step
 stepped c = rw (← c .before .prepare .ensures .1, ← c .before .prepare .ensures .2) (c .advance .ensures)
 
@@ -79,28 +84,42 @@ returns-3 : tie.Need-returns-3
 unfolding taken pick
 returns-3 c = rw (lawful (c .before .before .before .before .before), fitting (c .before .before .before), ne-eqb _ _ (c .before .if3 .taken)) (c .refuse3 .ensures)
 
+mask-passes-requires : tie.Need-mask-passes-requires
+mask-passes-requires c κs = search needs
+
 refuse-requires-4 : tie.Need-refuse-requires-4
 refuse-requires-4 c κs = search needs
 
 returns-4 : tie.Need-returns-4
 unfolding taken pick
-returns-4 c = rw (lawful (c .before .before .before .before .before .before .before), fitting (c .before .before .before .before .before), eq-eqb _ _ (c .before .before .before .if3 .left), le-ltb _ _ (c .before .if4 .taken)) (c .refuse4 .ensures)
+returns-4 c =
+    rw (lawful (c .before .before .before .before .before .before .before), fitting (c .before .before .before .before .before), eq-eqb _ _ (c .before .before .before .if3 .left), sym (c .before .before .mask-passes .ensures) ∙ not-true _ (c .before .if4 .taken))
+    (c .refuse4 .ensures)
 
-prepare-requires : tie.Need-prepare-requires
-prepare-requires c κs = ready (c .before .before .before .before .before .before) .few
-
-advance-requires : tie.Need-advance-requires
-advance-requires c κs =
-    let s = c .before .before .before .before .before .before .before .before .before .before in
-    let u : Usable (s .args .t) = ready (c .before .before .before .before .before .before .before) in
-    let f : Fits (s .args .t) (s .args .s) = fits-sound _ _ (u .few) (long s) (fitting (c .before .before .before .before .before)) in
-    let e : length (s .args .bytes .now) ≡ s .args .t .count = c .before .before .before .if3 .left in
-    let l : Below (length (s .args .bytes .now)) (order (s .args .t)) = rw e (order-below (s .args .t)) in
-    (u, ((c .prepare .ensures .0, rw (c .prepare .ensures .1) l), (f, c .before .if4 .left, omega (arith, u .few, e))))
+refuse-requires-5 : tie.Need-refuse-requires-5
+refuse-requires-5 c κs = search needs
 
 returns-5 : tie.Need-returns-5
 unfolding taken pick
-returns-5 c = rw (lawful (c .before .before .before .before .before .before .before .before .before), fitting (c .before .before .before .before .before .before .before), eq-eqb _ _ (c .before .before .before .before .before .if3 .left), lt-ltb _ _ (c .before .before .before .if4 .left), ← stepped (c .before))
+returns-5 c =
+    rw (lawful (c .before .before .before .before .before .before .before .before .before), fitting (c .before .before .before .before .before .before .before), eq-eqb _ _ (c .before .before .before .before .before .if3 .left), masked (c .before .before .before), le-ltb _ _ (c .before .if5 .taken)) (c .refuse5 .ensures)
+
+prepare-requires : tie.Need-prepare-requires
+prepare-requires c κs = ready (c .before .before .before .before .before .before .before .before) .few
+
+advance-requires : tie.Need-advance-requires
+advance-requires c κs =
+    let s = c .before .before .before .before .before .before .before .before .before .before .before .before in
+    let u : Usable (s .args .t) = ready (c .before .before .before .before .before .before .before .before .before) in
+    let f : Fits (s .args .t) (s .args .s) = fits-sound _ _ (u .few) (long s) (fitting (c .before .before .before .before .before .before .before)) in
+    let e : length (s .args .bytes .now) ≡ s .args .t .count = c .before .before .before .before .before .if3 .left in
+    let l : Below (length (s .args .bytes .now)) (order (s .args .t)) = rw e (order-below (s .args .t)) in
+    (u, ((c .prepare .ensures .0, rw (c .prepare .ensures .1) l), (f, c .before .if5 .left, omega (arith, u .few, e))))
+
+returns-6 : tie.Need-returns-6
+unfolding taken pick
+returns-6 c =
+    rw (lawful (c .before .before .before .before .before .before .before .before .before .before .before), fitting (c .before .before .before .before .before .before .before .before .before), eq-eqb _ _ (c .before .before .before .before .before .before .before .if3 .left), masked (c .before .before .before .before .before), lt-ltb _ _ (c .before .before .before .if5 .left), ← stepped (c .before))
 
 pub step-spec : {M : Type 1} → statement M
 step-spec =
@@ -115,8 +134,11 @@ step-spec =
     cast-if3
     refuse-requires-3
     returns-3
+    mask-passes-requires
     refuse-requires-4
     returns-4
+    refuse-requires-5
+    returns-5
     prepare-requires
     advance-requires
-    returns-5)
+    returns-6)

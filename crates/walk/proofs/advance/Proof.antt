@@ -23,10 +23,10 @@ release-requires : tie.Need-release-requires
 release-requires c κs = search needs
 
 walk-requires : tie.Need-walk-requires
-walk-requires c κs = let s = c .before .before .before .before in let t = s .args .t in let k : Counted 999999999 (release t (t .count) (s .args .s)) = record { at = λ i. omega (arith, release-fits t (s .args .s) (s .pre .1 .1 .0) .at i .ran-high, s .pre .1 .1 .1) } in (s .pre .1 .0, (rw (c .release .ensures) k, s .pre .1 .1 .2))
+walk-requires c κs = let s = c .before .before .before .before in let t = s .args .t in let k : Counted 999999999 (release t (s .args .mask) (s .args .s)) = record { at = λ i. omega (arith, release-fits t (s .args .mask) (s .args .s) (s .pre .1 .1 .0) .at i .ran-high, s .pre .1 .1 .1) } in (s .pre .1 .0, (rw (c .release .ensures) k, s .pre .1 .1 .2))
 
 tick-requires : tie.Need-tick-requires
-tick-requires c κs = let s = c .before .before .before .before .before .before in rw (c .before .walk .ensures, walk-clock, c .before .before .release .ensures, release-clock) (s .pre .1 .1 .1)
+tick-requires c κs = let s = c .before .before .before .before .before .before in (rw (c .before .walk .ensures, walk-clock, c .before .before .release .ensures, release-clock) (s .pre .1 .1 .1), s .pre .0 .few)
 
 returns : tie.Need-returns
 unfolding advance ticked

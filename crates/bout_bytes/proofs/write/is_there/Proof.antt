@@ -1,4 +1,4 @@
--- `bout_bytes::write::is_there` is safe and ends: i counts up to 800.
+-- `bout_bytes::write::is_there` is safe and ends: i counts up to 900.
 use Prim.Native.Nat.{_-_}
 use borrow.Author.Needs.{needs}
 use Rattle.bout_bytes.proofs.write.is_there.Statement.{statement}
@@ -8,7 +8,7 @@ abbrev Inv-loop : tie.InvT-loop
 Inv-loop from to buf bytes same₀ i₀ same i = Unit {0}
 
 abbrev μ-loop : tie.MeasureT-loop
-μ-loop from to buf bytes same₀ i₀ same i = 800 - i
+μ-loop from to buf bytes same₀ i₀ same i = 900 - i
 
 loop-holds : tie.Need-loop-holds Inv-loop μ-loop
 loop-holds c = search needs

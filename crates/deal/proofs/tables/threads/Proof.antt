@@ -5,10 +5,10 @@ use Rattle.deal.proofs.tables.threads.Statement.{statement}
 use Rattle.deal.proofs.tables.threads.Tie as tie
 
 abbrev Inv-loop : tie.InvT-loop
-Inv-loop seed domains count threads₀ i₀ threads i = Unit {0}
+Inv-loop seed version domains count threads₀ i₀ threads i = Unit {0}
 
 abbrev μ-loop : tie.MeasureT-loop
-μ-loop seed domains count threads₀ i₀ threads i = count - i
+μ-loop seed version domains count threads₀ i₀ threads i = count - i
 
 no-thread-requires : tie.Need-no-thread-requires Inv-loop μ-loop
 no-thread-requires c κs = search needs

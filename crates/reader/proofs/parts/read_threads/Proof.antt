@@ -1,5 +1,6 @@
 use Rattle.reader.proofs.ReaderLaws.{threads-next, fields-small}
 use Rattle.reader.specs.Reader.{threads-from}
+use Rattle.table.proofs.RangeLaws.{fields-in-most}
 use native.Mathlib.Omega.{arith}
 use mathlib.Core.Path.{_≡_}
 use Prim.Native.Nat.{_≤_, _-_}
@@ -13,10 +14,10 @@ use Rattle.table.proofs.make_thread.Reads as make-thread-reads
 use Rattle.table.proofs.no_thread.Reads as no-thread-reads
 
 abbrev Inv-loop : tie.InvT-loop
-Inv-loop s domains count threads₀ k₀ i₀ threads k i = (i ≤ count) × (record { cursor = k; threads = threads } ≡ threads-from s domains k₀ i)
+Inv-loop s version domains count threads₀ k₀ i₀ threads k i = (i ≤ count) × (record { cursor = k; threads = threads } ≡ threads-from s version domains k₀ i)
 
 abbrev μ-loop : tie.MeasureT-loop
-μ-loop s domains count threads₀ k₀ i₀ threads k i = count - i
+μ-loop s version domains count threads₀ k₀ i₀ threads k i = count - i
 
 no-thread-requires : tie.Need-no-thread-requires Inv-loop μ-loop
 no-thread-requires c κs = search needs
@@ -29,7 +30,7 @@ read-fields-requires : tie.Need-read-fields-requires Inv-loop μ-loop
 read-fields-requires c κs = search needs
 
 make-thread-requires : tie.Need-make-thread-requires Inv-loop μ-loop
-make-thread-requires c κs = rw (c .before .before .read-fields .ensures) (fields-small _ _ _ _ _ (c .before .before .before .before .before .before .before .fits .domains .fits))
+make-thread-requires c κs = rw (c .before .before .read-fields .ensures) (fields-small _ _ _ _ _ _ _ (fields-in-most _) (c .before .before .before .before .before .before .before .fits .domains .fits))
 
 cast-threads : tie.Need-cast-threads Inv-loop μ-loop
 cast-threads c = search needs
@@ -47,7 +48,7 @@ loop-less : tie.Need-loop-less Inv-loop μ-loop
 loop-less c = search needs
 
 loop-again : tie.Need-loop-again Inv-loop μ-loop
-loop-again c = (omega arith, rw (c .make-thread .ensures) (threads-next _ _ _ _ _ _ _ (c .before .before .before .before .before .loop .inv .1) (c .before .before .before .read-fields .ensures)))
+loop-again c = (omega arith, rw (c .make-thread .ensures) (threads-next _ _ _ _ _ _ _ _ (c .before .before .before .before .before .loop .inv .1) (c .before .before .before .read-fields .ensures)))
 
 returns : tie.Need-returns Inv-loop μ-loop
 returns c = let e : c .before .loop .i ≡ c .before .before .before .before .args .count = omega arith in rw e at (c .before .loop .inv .1)

@@ -5,10 +5,10 @@ use Rattle.rival.proofs.time.release.Statement.{statement}
 use Rattle.rival.proofs.time.release.Tie as tie
 
 abbrev Inv-loop : tie.InvT-loop
-Inv-loop t s count next₀ i₀ next i = Unit {0}
+Inv-loop mask t s count next₀ i₀ next i = Unit {0}
 
 abbrev μ-loop : tie.MeasureT-loop
-μ-loop t s count next₀ i₀ next i = count - i
+μ-loop mask t s count next₀ i₀ next i = count - i
 
 loop-holds : tie.Need-loop-holds Inv-loop μ-loop
 loop-holds c = search needs
@@ -31,11 +31,14 @@ mul-p c = search needs
 element-copy-out-p : tie.Need-element-copy-out-p Inv-loop μ-loop
 element-copy-out-p c = search needs
 
+has-requires : tie.Need-has-requires Inv-loop μ-loop
+has-requires c κs = search needs
+
 released-requires : tie.Need-released-requires Inv-loop μ-loop
 released-requires c κs = search needs
 
-cast-t12 : tie.Need-cast-t12 Inv-loop μ-loop
-cast-t12 c = search needs
+cast-t15 : tie.Need-cast-t15 Inv-loop μ-loop
+cast-t15 c = search needs
 
 mul-t13 : tie.Need-mul-t13 Inv-loop μ-loop
 mul-t13 c = search needs
@@ -68,8 +71,9 @@ release-spec =
     cast-p
     mul-p
     element-copy-out-p
+    has-requires
     released-requires
-    cast-t12
+    cast-t15
     mul-t13
     element-set-from-next
     add-i

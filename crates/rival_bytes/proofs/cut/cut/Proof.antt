@@ -1,4 +1,4 @@
--- `rival_bytes::cut::cut` is safe and ends: k counts up to 256.
+-- `rival_bytes::cut::cut` is safe and ends: k counts up to 288.
 use Prim.Native.Nat.{_-_}
 use borrow.Author.Needs.{needs}
 use Rattle.rival_bytes.proofs.cut.cut.Statement.{statement}
@@ -8,7 +8,7 @@ abbrev Inv-loop : tie.InvT-loop
 Inv-loop s values₀ places₀ at₀ k₀ values places at k = Unit {0}
 
 abbrev μ-loop : tie.MeasureT-loop
-μ-loop s values₀ places₀ at₀ k₀ values places at k = 256 - k
+μ-loop s values₀ places₀ at₀ k₀ values places at k = 288 - k
 
 loop-holds : tie.Need-loop-holds Inv-loop μ-loop
 loop-holds c = search needs

@@ -1,4 +1,4 @@
--- `rival_bytes::judge::read` is safe and ends: k counts up to 256.
+-- `rival_bytes::judge::read` is safe and ends: k counts up to 288.
 use Prim.Native.Nat.{_-_}
 use borrow.Author.Needs.{needs}
 use Rattle.rival_bytes.proofs.judge.read.Statement.{statement}
@@ -8,7 +8,7 @@ abbrev Inv-loop : tie.InvT-loop
 Inv-loop s cut values places t₀ k₀ t k = Unit {0}
 
 abbrev μ-loop : tie.MeasureT-loop
-μ-loop s cut values places t₀ k₀ t k = 256 - k
+μ-loop s cut values places t₀ k₀ t k = 288 - k
 
 cut-requires : tie.Need-cut-requires Inv-loop μ-loop
 cut-requires c κs = search needs

@@ -1,4 +1,4 @@
--- `spoil::pages::opened` is safe and ends: i counts up to 800.
+-- `spoil::pages::opened` is safe and ends: i counts up to 900.
 use Prim.Native.Nat.{_-_}
 use borrow.Author.Needs.{needs}
 use Rattle.spoil.proofs.pages.opened.Statement.{statement}
@@ -8,7 +8,7 @@ abbrev Inv-loop : tie.InvT-loop
 Inv-loop p at by bytes₀ from i₀ bytes i = Unit {0}
 
 abbrev μ-loop : tie.MeasureT-loop
-μ-loop p at by bytes₀ from i₀ bytes i = 800 - i
+μ-loop p at by bytes₀ from i₀ bytes i = 900 - i
 
 loop-holds : tie.Need-loop-holds Inv-loop μ-loop
 loop-holds c = search needs

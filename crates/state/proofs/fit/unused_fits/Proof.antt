@@ -20,7 +20,13 @@ returns-3 c = rw (eq-eqb _ _ (c .before .before .before .if1 .left), eq-eqb _ _ 
 
 returns-4 : tie.Need-returns-4
 unfolding unused-fits
-returns-4 c = rw (eq-eqb _ _ (c .before .before .before .before .if1 .left), eq-eqb _ _ (c .before .before .if2 .left), c .before .if3 .left)
+returns-4 c =
+    rw (eq-eqb _ _ (c .before .before .before .before .before .if1 .left), eq-eqb _ _ (c .before .before .before .if2 .left), c .before .before .if3 .left, ne-eqb _ _ (c .if4 .taken))
+
+returns-5 : tie.Need-returns-5
+unfolding unused-fits
+returns-5 c =
+    rw (eq-eqb _ _ (c .before .before .before .before .before .before .if1 .left), eq-eqb _ _ (c .before .before .before .before .if2 .left), c .before .before .before .if3 .left, eq-eqb _ _ (c .before .if4 .left))
 
 pub unused-fits-spec : {M : Type 1} → statement M
-unused-fits-spec = tie.close (tie.spec returns returns-2 returns-3 returns-4)
+unused-fits-spec = tie.close (tie.spec returns returns-2 returns-3 returns-4 returns-5)

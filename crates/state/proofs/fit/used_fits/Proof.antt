@@ -22,7 +22,15 @@ returns-2 c =
 returns-3 : tie.Need-returns-3
 unfolding used-fits
 returns-3 c =
-    rw (le-leb _ _ (c .before .before .before .before .if1 .left), le-leb _ _ (rw (c .before .before .before .execution-budget .ensures) at (c .before .if2 .left)))
+    rw (le-leb _ _ (c .before .before .before .before .before .if1 .left), le-leb _ _ (rw (c .before .before .before .before .execution-budget .ensures) at (c .before .before .if2 .left)), lt-leb _ _ (c .if3 .taken))
+
+longest-since-requires : tie.Need-longest-since-requires
+longest-since-requires c κs = search needs
+
+returns-4 : tie.Need-returns-4
+unfolding used-fits
+returns-4 c =
+    rw (le-leb _ _ (c .before .before .before .before .before .before .before .if1 .left), le-leb _ _ (rw (c .before .before .before .before .before .before .execution-budget .ensures) at (c .before .before .before .before .if2 .left)), le-leb _ _ (c .before .before .if3 .left), ← c .before .longest-since .ensures)
 
 pub used-fits-spec : {M : Type 1} → statement M
-used-fits-spec = tie.close (tie.spec returns execution-budget-requires returns-2 returns-3)
+used-fits-spec = tie.close (tie.spec returns execution-budget-requires returns-2 returns-3 longest-since-requires returns-4)

@@ -21,16 +21,16 @@ use Rattle.table.proofs.ranges.fields.Reads as fields-reads
 use Rattle.table.proofs.ranges.in_range.Reads as in-range-reads
 
 -- The test of field k, by the ranges of a thread that has these fields.
-field-test : (d : ℕ) (th : Thread) (vs : List ℕ) (ranges : List Range) (k : ℕ) (b : Bool) → vs ≡ fields th
-    → ranges ≡ field-ranges d (th .period) (th .budget) → within (getD ranges k (range 0 0)) (getD vs k 0) ≡ b → field-ok d vs k ≡ b
+field-test : (v d : ℕ) (th : Thread) (vs : List ℕ) (ranges : List Range) (k : ℕ) (b : Bool) → vs ≡ fields th
+    → ranges ≡ field-ranges v d (th .period) (th .offset) (th .budget) → within (getD ranges k (range 0 0)) (getD vs k 0) ≡ b → field-ok v d vs k ≡ b
 unfolding field-ok field-range
-field-test d th vs ranges k b e f g = rw (← g, f, e)
+field-test v d th vs ranges k b e f g = rw (← g, f, e)
 
 abbrev Inv-loop : tie.InvT-loop
-Inv-loop domains vs ranges k₀ k = (k ≤ field-count) × (every k (field-ok domains vs) ≡ true)
+Inv-loop version domains vs ranges k₀ k = (k ≤ field-count) × (every k (field-ok version domains vs) ≡ true)
 
 abbrev μ-loop : tie.MeasureT-loop
-μ-loop domains vs ranges k₀ k = field-count - k
+μ-loop version domains vs ranges k₀ k = field-count - k
 
 fields-requires : tie.Need-fields-requires Inv-loop μ-loop
 fields-requires c κs = search needs
@@ -61,8 +61,8 @@ unfolding thread-ok
 returns c =
     let s = c .before .before .before .before .before in
     rw (← s .before .fields .ensures)
-    (sym (every-fails (field-ok (s .before .before .args .domains) (s .before .fields .result)) _ field-count
-    (field-test _ _ _ _ _ _ (s .before .fields .ensures) (s .field-ranges .ensures) (sym (c .before .in-range .ensures) ∙ not-true _ (c .if1 .taken)))
+    (sym (every-fails (field-ok (s .before .before .args .version) (s .before .before .args .domains) (s .before .fields .result)) _ field-count
+    (field-test _ _ _ _ _ _ _ (s .before .fields .ensures) (s .field-ranges .ensures) (sym (c .before .in-range .ensures) ∙ not-true _ (c .if1 .taken)))
     (c .before .before .before .loop-test .taken)))
 
 add-k : tie.Need-add-k Inv-loop μ-loop
@@ -76,7 +76,7 @@ loop-again c =
     let s = c .before .before .before .before .before in (
       search needs,
       every-next _ _ (c .before .before .before .before .loop .inv .1)
-          (field-test _ _ _ _ _ _ (s .before .fields .ensures) (s .field-ranges .ensures) (sym (c .before .in-range .ensures) ∙ not-false _ (c .if1 .left))),
+          (field-test _ _ _ _ _ _ _ (s .before .fields .ensures) (s .field-ranges .ensures) (sym (c .before .in-range .ensures) ∙ not-false _ (c .if1 .left))),
     )
 
 returns-2 : tie.Need-returns-2 Inv-loop μ-loop

@@ -11,10 +11,10 @@ use Rattle.writer.proofs.put.write_threads.Statement.{statement}
 use Rattle.writer.proofs.put.write_threads.Tie as tie
 
 abbrev Inv-loop : tie.InvT-loop
-Inv-loop buf₀ at n threads k₀ i₀ buf k i = (i ≤ n) × Put buf₀ at buf k (encode-all (thread-numbers threads i))
+Inv-loop buf₀ at version n threads k₀ i₀ buf k i = (i ≤ n) × Put buf₀ at buf k (encode-all (thread-numbers version threads i))
 
 abbrev μ-loop : tie.MeasureT-loop
-μ-loop buf₀ at n threads k₀ i₀ buf k i = n - i
+μ-loop buf₀ at version n threads k₀ i₀ buf k i = n - i
 
 loop-holds : tie.Need-loop-holds Inv-loop μ-loop
 unfolding encode-all thread-numbers
@@ -32,7 +32,7 @@ array-copy-out-th c = search needs
 write-thread-requires : tie.Need-write-thread-requires Inv-loop μ-loop
 write-thread-requires c κs =
     put-room (c .before .before .before .loop .inv .1) (c .before .before .before .before .before .pre .1)
-    (threads-room _ _ _ (c .before .before .loop-test .taken))
+    (threads-room _ _ _ _ (c .before .before .loop-test .taken))
 
 add-i : tie.Need-add-i Inv-loop μ-loop
 add-i c = search needs
@@ -43,7 +43,7 @@ loop-less c = search needs
 loop-again : tie.Need-loop-again Inv-loop μ-loop
 loop-again c = (
   omega arith,
-  rw (threads-next _ _)
+  rw (threads-next _ _ _)
       (put-join (c .before .before .before .before .before .before .loop .inv .1) (c .before .before .write-thread .ensures)),
 )
 

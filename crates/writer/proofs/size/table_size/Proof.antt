@@ -18,7 +18,7 @@ add-result-2 : tie.Need-add-result-2
 add-result-2 c = search needs
 
 returns : tie.Need-returns
-returns c = omega (arith, bytes-length (c .before .before .before .before .args .t) (omega arith) (omega arith), c .before .before .rows-size .ensures, c .threads-size .ensures)
+returns c = omega (arith, bytes-length (c .before .before .before .before .args .t) (omega arith) (omega arith) (omega arith), c .before .before .rows-size .ensures, c .threads-size .ensures)
 
 pub table-size-spec : {M : Type 1} → statement M
 table-size-spec =

@@ -3,7 +3,8 @@ use Prim.Native.Nat.{_*_, _≤_, _<_, _-_}
 use mathlib.Core.Path.{_≡_, refl, ap}
 use native.Mathlib.Omega.{arith}
 use lib.ListN.{length, take}
-use Rattle.table.specs.Threads.{field-count, fields}
+use Rattle.table.specs.Threads.{field-count, fields-in}
+use Rattle.table.proofs.RangeLaws.{fields-in-most}
 use Rattle.numeral.specs.Number.{encode-all}
 use Rattle.writer.proofs.WriterLaws.{numbers-length}
 use borrow.Author.Needs.{needs}
@@ -11,17 +12,23 @@ use Rattle.writer.proofs.size.thread_size.Statement.{statement}
 use Rattle.writer.proofs.size.thread_size.Tie as tie
 
 abbrev Inv-loop : tie.InvT-loop
-Inv-loop vs k₀ i₀ k i = (i ≤ field-count) × (k ≡ length (encode-all (take i vs))) × (k ≤ 3 * i)
+Inv-loop version vs k₀ i₀ i-end k i = (i ≤ i-end) × (i-end ≤ field-count) × (k ≡ length (encode-all (take i vs))) × (k ≤ 3 * i)
 
 abbrev μ-loop : tie.MeasureT-loop
-μ-loop vs k₀ i₀ k i = field-count - i
+μ-loop version vs k₀ i₀ i-end k i = i-end - i
 
 fields-requires : tie.Need-fields-requires Inv-loop μ-loop
 fields-requires c κs = search needs
 
+fields-in-requires : tie.Need-fields-in-requires Inv-loop μ-loop
+fields-in-requires c κs = search needs
+
+cast-i-end : tie.Need-cast-i-end Inv-loop μ-loop
+cast-i-end c = search needs
+
 loop-holds : tie.Need-loop-holds Inv-loop μ-loop
 unfolding encode-all
-loop-holds c = (omega arith, refl, omega arith)
+loop-holds c = (omega arith, rw (c .fields-in .ensures) (fields-in-most _), refl, omega arith)
 
 mul-number-size : tie.Need-mul-number-size Inv-loop μ-loop
 mul-number-size c = search needs
@@ -43,14 +50,15 @@ loop-less c = search needs
 
 loop-again : tie.Need-loop-again Inv-loop μ-loop
 loop-again c =
-    let h : c .before .before .loop .i < length (c .before .before .before .fields .result) = omega (arith, ap length (c .before .before .before .fields .ensures)) in
-    omega (arith, numbers-length (c .before .before .before .fields .result) (c .before .before .loop .i) h)
+    let vs = c .before .before .before .before in
+    let h : c .before .before .loop .i < length (vs .fields .result) = omega (arith, ap length (vs .fields .ensures)) in
+    omega (arith, numbers-length (vs .fields .result) (c .before .before .loop .i) h)
 
 returns : tie.Need-returns Inv-loop μ-loop
 returns c =
-    let e : c .before .loop .i ≡ field-count = omega arith in
-    let q : take field-count (c .before .before .fields .result) ≡ fields (c .before .before .before .args .th) = rw (c .before .before .fields .ensures) in
-    (rw (e, q) at (c .before .loop .inv .1), omega arith)
+    let vs = c .before .before .before in
+    let e : c .before .loop .i ≡ fields-in (vs .before .args .version) = omega (arith, c .before .before .fields-in .ensures) in
+    (rw (e, vs .fields .ensures) at (c .before .loop .inv .2), omega arith)
 
 pub thread-size-spec : {M : Type 1} → statement M
 thread-size-spec =
@@ -59,6 +67,8 @@ thread-size-spec =
     Inv-loop
     μ-loop
     fields-requires
+    fields-in-requires
+    cast-i-end
     loop-holds
     mul-number-size
     array-read-number-size

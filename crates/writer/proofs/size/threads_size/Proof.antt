@@ -12,10 +12,10 @@ use Rattle.writer.proofs.size.threads_size.Statement.{statement}
 use Rattle.writer.proofs.size.threads_size.Tie as tie
 
 abbrev Inv-loop : tie.InvT-loop
-Inv-loop n threads k₀ i₀ k i = (i ≤ n) × (k ≡ length (encode-all (thread-numbers threads i))) × (k ≤ 3 * field-count * i)
+Inv-loop version n threads k₀ i₀ k i = (i ≤ n) × (k ≡ length (encode-all (thread-numbers version threads i))) × (k ≤ 3 * field-count * i)
 
 abbrev μ-loop : tie.MeasureT-loop
-μ-loop n threads k₀ i₀ k i = n - i
+μ-loop version n threads k₀ i₀ k i = n - i
 
 loop-holds : tie.Need-loop-holds Inv-loop μ-loop
 unfolding encode-all thread-numbers
@@ -43,7 +43,7 @@ loop-less : tie.Need-loop-less Inv-loop μ-loop
 loop-less c = search needs
 
 loop-again : tie.Need-loop-again Inv-loop μ-loop
-loop-again c = omega (arith, threads-length (c .before .before .before .before .args .t1) (c .before .before .before .loop .i))
+loop-again c = omega (arith, threads-length (c .before .before .before .before .args .version) (c .before .before .before .before .args .t2) (c .before .before .before .loop .i))
 
 returns : tie.Need-returns Inv-loop μ-loop
 returns c =

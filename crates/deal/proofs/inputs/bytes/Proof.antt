@@ -1,8 +1,8 @@
--- `deal::states::bytes` is safe and ends: i counts up to 40.
+-- `deal::inputs::bytes` is safe and ends: i counts up to 40.
 use Prim.Native.Nat.{_-_}
 use borrow.Author.Needs.{needs}
-use Rattle.deal.proofs.states.bytes.Statement.{statement}
-use Rattle.deal.proofs.states.bytes.Tie as tie
+use Rattle.deal.proofs.inputs.bytes.Statement.{statement}
+use Rattle.deal.proofs.inputs.bytes.Tie as tie
 
 abbrev Inv-loop : tie.InvT-loop
 Inv-loop seed mood bytes₀ i₀ bytes i = Unit {0}
