@@ -17,6 +17,7 @@ use Rattle.state.specs.declared.State.{State}
 use Rattle.walk.specs.declared.Answer.{Answer}
 use Rattle.walk.specs.declared.Answer.the-variants.{Ran, IdleFor, Idle}
 use Rattle.scheduler.proofs.RefusalLaws.{number-exactly, taken-steps}
+use Rattle.frame.specs.Mode.{Mode}
 use Rattle.actuator.specs.Motion.{drawn}
 use Rattle.actuator.specs.Drive.{Brought, Drove, ran, commanded, moved-to, driven}
 use Rattle.actuator.specs.declared.Actuator.{Actuator}
@@ -27,39 +28,39 @@ use Rattle.actuator.proofs.MoveLaws.{drive-steps}
 above : {n : ℕ} → n ≢ 0 → 0 < n
 above h = omega (arith, h)
 
-module _ (t : Table) (b : Brought) (s : State) (a : Actuator) where
+module _ (t : Table) (mode : Mode) (b : Brought) (s : State) (a : Actuator) where
   -- The command after a drive that tells an answer.
-  command-of : (n : Answer) → driven t b s a .told ≡ answered (values n) → driven t b s a .actuator .command ≡ commanded a n (b .command)
+  command-of : (n : Answer) → driven t mode b s a .told ≡ answered (values n) → driven t mode b s a .actuator .command ≡ commanded a n (b .command)
   unfolding moved-to
   command-of n h =
-      let e = drive-steps t b s a (ap (λ (x : Told). x .number) h) in
-      let v : taken t (b .input) s .told ≡ answered (values n) = sym (ap (λ (x : Drove). x .told) e) ∙ h in
+      let e = drive-steps t mode b s a (ap (λ (x : Told). x .number) h) in
+      let v : taken t mode (b .input) s .told ≡ answered (values n) = sym (ap (λ (x : Drove). x .told) e) ∙ h in
       ap (λ (x : Drove). x .actuator .command) e ∙ rw (v, answer-back n)
 
-  pub taken-if-ran : driven t b s a .told ≡ answered (0 ∷ a .thread ∷ []) → driven t b s a .actuator .command ≡ drawn (b .command)
+  pub taken-if-ran : driven t mode b s a .told ≡ answered (0 ∷ a .thread ∷ []) → driven t mode b s a .actuator .command ≡ drawn (b .command)
   unfolding commanded ran pick
   taken-if-ran h = command-of (Ran (a .thread)) h ∙ rw (eq-eqb (a .thread) (a .thread) refl)
 
   -- Any other answer, and any refusal, leaves the last command.
-  pub kept-unless-ran : driven t b s a .told ≢ answered (0 ∷ a .thread ∷ []) → driven t b s a .actuator .command ≡ a .command
+  pub kept-unless-ran : driven t mode b s a .told ≢ answered (0 ∷ a .thread ∷ []) → driven t mode b s a .actuator .command ≡ a .command
   unfolding commanded ran pick
   kept-unless-ran h =
-      by-test (eqb (driven t b s a .told .number) 0)
-      (λ q. let m = eqb-true (driven t b s a .told .number) 0 q in
-      let k : taken t (b .input) s .told .number ≡ 0 = sym (ap (λ (x : Drove). x .told .number) (drive-steps t b s a m)) ∙ m in
-      stepped (number-exactly t (b .input) s 0 .0 k) m)
-      (λ q. ap (λ (x : Actuator). x .command) (drive-refused-keeps t b s a (above (eqb-false _ 0 q)) .1))
+      by-test (eqb (driven t mode b s a .told .number) 0)
+      (λ q. let m = eqb-true (driven t mode b s a .told .number) 0 q in
+      let k : taken t mode (b .input) s .told .number ≡ 0 = sym (ap (λ (x : Drove). x .told .number) (drive-steps t mode b s a m)) ∙ m in
+      stepped (number-exactly t mode (b .input) s 0 .0 k) m)
+      (λ q. ap (λ (x : Actuator). x .command) (drive-refused-keeps t mode b s a (above (eqb-false _ 0 q)) .1))
     where
-      other : (n : Answer) → driven t b s a .told ≡ answered (values n) → commanded a n (b .command) ≡ a .command
+      other : (n : Answer) → driven t mode b s a .told ≡ answered (values n) → commanded a n (b .command) ≡ a .command
       other (Ran i) e =
           either (λ z. z ≡ a .command) (eqb (a .thread) i)
           (λ q. absurd (h (e ∙ ap (λ (j : ℕ). answered (0 ∷ j ∷ [])) (sym (eqb-true (a .thread) i q))))) (λ q. refl)
       other (IdleFor i) e = refl
       other Idle e = refl
 
-      stepped : Numbered t (b .input) s 0 → driven t b s a .told .number ≡ 0 → driven t b s a .actuator .command ≡ a .command
-      stepped (steps x y z u w) m =
-          let n : Answer = step t (b .input) s .answer in
-          let e : driven t b s a .told ≡ answered (values n) =
-          ap (λ (r : Drove). r .told) (drive-steps t b s a m) ∙ ap (λ (r : Taken). r .told) (taken-steps t (b .input) s x y z u w) in
+      stepped : Numbered t mode (b .input) s 0 → driven t mode b s a .told .number ≡ 0 → driven t mode b s a .actuator .command ≡ a .command
+      stepped (steps x o y z u w) m =
+          let n : Answer = step t mode (b .input) s .answer in
+          let e : driven t mode b s a .told ≡ answered (values n) =
+          ap (λ (r : Drove). r .told) (drive-steps t mode b s a m) ∙ ap (λ (r : Taken). r .told) (taken-steps t mode (b .input) s x o y z u w) in
           command-of n e ∙ other n e

@@ -29,6 +29,7 @@ use Rattle.walk.specs.declared.Answer.the-variants.{Ran, IdleFor, Idle}
 use Rattle.scheduler.proofs.RefusalLaws.{refused-keeps}
 use Rattle.isolation.proofs.Isolation.{demand-3}
 use Rattle.sight.proofs.NumberLaws.{view-number}
+use Rattle.frame.specs.Mode.{Mode}
 use Rattle.actuator.specs.Motion.{ranged, drawn}
 use Rattle.actuator.specs.Drive.{Brought, Drove, ran, commanded, moved-to, follows, driven}
 use Rattle.actuator.specs.Runs.{drives, actuators, positions, Same-runs, step-part, Isolated-drives, Same-positions}
@@ -73,50 +74,50 @@ module _ (t : Table) (ok : legal t ≡ true) (d : ℕ) (dd : d < t .domains) whe
 accepted : Table → Actuator → Bool
 accepted t a = and (ltb (a .thread) (t .count)) (ranged a)
 
-module _ (t : Table) (b : Brought) (s : State) (a : Actuator) where
+module _ (t : Table) (mode : Mode) (b : Brought) (s : State) (a : Actuator) where
   -- Where it passes, the scheduler's part of a drive is the scheduler's call, the actuator moves with every step, and it passes again.
-  part-taken : accepted t a ≡ true → step-part (driven t b s a) ≡ taken t (b .input) s
+  part-taken : accepted t a ≡ true → step-part (driven t mode b s a) ≡ taken t mode (b .input) s
   unfolding accepted driven follows pick
   part-taken h =
       let p = and-both (ltb (a .thread) (t .count)) (ranged a) h in
-      let r : Taken = taken t (b .input) s in
-      by-test (eqb (taken t (b .input) s .told .number) 0) (λ e. rw (e, p .0, p .1))
-      (λ e. let k : r .state ≡ s = refused-keeps t (b .input) s (omega (arith, eqb-false (taken t (b .input) s .told .number) 0 e)) in
+      let r : Taken = taken t mode (b .input) s in
+      by-test (eqb (taken t mode (b .input) s .told .number) 0) (λ e. rw (e, p .0, p .1))
+      (λ e. let k : r .state ≡ s = refused-keeps t mode (b .input) s (omega (arith, eqb-false (taken t mode (b .input) s .told .number) 0 e)) in
       rw e (λ i. record { told = r .told; state = sym k i }))
 
   actuator-by : accepted t a ≡ true
-      → driven t b s a .actuator
-      ≡ pick (eqb (taken t (b .input) s .told .number) 0) (moved-to a (commanded a (answer-of (taken t (b .input) s .told .values)) (b .command))) a
+      → driven t mode b s a .actuator
+      ≡ pick (eqb (taken t mode (b .input) s .told .number) 0) (moved-to a (commanded a (answer-of (taken t mode (b .input) s .told .values)) (b .command))) a
   unfolding accepted driven follows pick
   actuator-by h =
       let p = and-both (ltb (a .thread) (t .count)) (ranged a) h in
-      by-test (eqb (taken t (b .input) s .told .number) 0) (λ e. rw (e, p .0, p .1)) (λ e. rw e)
+      by-test (eqb (taken t mode (b .input) s .told .number) 0) (λ e. rw (e, p .0, p .1)) (λ e. rw e)
 
-  thread-stays : driven t b s a .actuator .thread ≡ a .thread
+  thread-stays : driven t mode b s a .actuator .thread ≡ a .thread
   unfolding moved-to
-  thread-stays = go (case-of t b s a)
+  thread-stays = go (case-of t mode b s a)
     where
-      go : Case t b s a → driven t b s a .actuator .thread ≡ a .thread
+      go : Case t mode b s a → driven t mode b s a .actuator .thread ≡ a .thread
       go (stays z e) = ap (λ (x : Actuator). x .thread) e
       go (goes c r f e) = ap (λ (x : Actuator). x .thread) e
 
-  accepted-stays : accepted t a ≡ true → accepted t (driven t b s a .actuator) ≡ true
+  accepted-stays : accepted t a ≡ true → accepted t (driven t mode b s a .actuator) ≡ true
   unfolding accepted
   accepted-stays h =
       let p = and-both (ltb (a .thread) (t .count)) (ranged a) h in
-      and-of (ap (λ i. ltb i (t .count)) thread-stays ∙ p .0) (ranged-stays t b s a (p .1))
+      and-of (ap (λ i. ltb i (t .count)) thread-stays ∙ p .0) (ranged-stays t mode b s a (p .1))
 
   -- Where it does not pass, every drive is refused and hands back what it was given.
   still : accepted t a ≡ false
-      → driven t b s a
+      → driven t mode b s a
       ≡ record {
-        told = pick (eqb (taken t (b .input) s .told .number) 0) (refused (pick (ltb (a .thread) (t .count)) 20 15)) (taken t (b .input) s .told);
+        told = pick (eqb (taken t mode (b .input) s .told .number) 0) (refused (pick (ltb (a .thread) (t .count)) 20 15)) (taken t mode (b .input) s .told);
         state = s;
         actuator = a;
       }
   unfolding accepted driven follows pick
   still h =
-      by-test (eqb (taken t (b .input) s .told .number) 0)
+      by-test (eqb (taken t mode (b .input) s .told .number) 0)
       (λ e. by-test (ltb (a .thread) (t .count))
       (λ f. let r : ranged a ≡ false = sym (ap (λ x. and x (ranged a)) f) ∙ h in rw (e, f, r))
       (λ f. rw (e, f)))
@@ -139,15 +140,15 @@ sent bs = map (λ (b : Brought). b .input) bs
 abbrev wanted : List Brought → List ℤ
 wanted bs = map (λ (b : Brought). b .command) bs
 
-module _ (t : Table) (ok : legal t ≡ true) (d : ℕ) (dd : d < t .domains) where
+module _ (t : Table) (mode : Mode) (ok : legal t ≡ true) (d : ℕ) (dd : d < t .domains) where
   -- Passed: the drives are shown as the calls are.
   shown-drives : (bs : List Brought) (s : State) (a : Actuator) → accepted t a ≡ true
-      → map (λ (r : Drove). shown-of t d (step-part r)) (drives t bs s a) ≡ map (shown-of t d) (calls t (sent bs) s)
+      → map (λ (r : Drove). shown-of t d (step-part r)) (drives t mode bs s a) ≡ map (shown-of t d) (calls t mode (sent bs) s)
   unfolding drives calls
   shown-drives bs s a h =
       turns-same _ _ _ _ _ _ (λ (x : State × Actuator) (r : State). (x .0 ≡ r) × (accepted t (x .1) ≡ true)) (λ (b : Brought). b .input)
-      (λ b x r k. let p : step-part (driven t b (x .0) (x .1)) ≡ taken t (b .input) r = part-taken t b (x .0) (x .1) (k .1) ∙ ap (taken t (b .input)) (k .0) in
-      (ap (shown-of t d) p, (ap (λ (w : Taken). w .state) p, accepted-stays t b (x .0) (x .1) (k .1))))
+      (λ b x r k. let p : step-part (driven t mode b (x .0) (x .1)) ≡ taken t mode (b .input) r = part-taken t mode b (x .0) (x .1) (k .1) ∙ ap (taken t mode (b .input)) (k .0) in
+      (ap (shown-of t d) p, (ap (λ (w : Taken). w .state) p, accepted-stays t mode b (x .0) (x .1) (k .1))))
       bs (s, a) s (refl, h)
 
   -- Two calls of which d is told the same: both are refused with the same, or in both or neither the thread ran that d may see.
@@ -167,89 +168,89 @@ module _ (t : Table) (ok : legal t ≡ true) (d : ℕ) (dd : d < t .domains) whe
 
   -- Passed: the actuator goes the same way.
   same-move : (b c : Brought) (s r : State) (a : Actuator) → accepted t a ≡ true → visible t d (a .thread) ≡ true
-      → shown-of t d (taken t (b .input) s) ≡ shown-of t d (taken t (c .input) r) → b .command ≡ c .command
-      → driven t b s a .actuator ≡ driven t c r a .actuator
+      → shown-of t d (taken t mode (b .input) s) ≡ shown-of t d (taken t mode (c .input) r) → b .command ≡ c .command
+      → driven t mode b s a .actuator ≡ driven t mode c r a .actuator
   unfolding shown-of commanded
   same-move b c s r a h v e k =
-      let x : Told = taken t (b .input) s .told in
-      let y : Told = taken t (c .input) r .told in
+      let x : Told = taken t mode (b .input) s .told in
+      let y : Told = taken t mode (c .input) r .told in
       let q : telling t d x ≡ telling t d y = ap (λ (z : Shown-call). z .told) e in
-      actuator-by t b s a h
+      actuator-by t mode b s a h
       ∙ both _≡_ (eqb (x .number) 0) (eqb (y .number) 0) (same-told x y q)
       (λ f. ap (moved-to a) (both _≡_ (ran (a .thread) (answer-of (x .values))) (ran (a .thread) (answer-of (y .values))) (same-ran (a .thread) v x y q f) (λ _. ap drawn k) (λ _. refl)))
       (λ _. refl)
-      ∙ sym (actuator-by t c r a h)
+      ∙ sym (actuator-by t mode c r a h)
 
   same-actuators : (us vs : List Brought) (s r : State) (a : Actuator) → accepted t a ≡ true → visible t d (a .thread) ≡ true
-      → map (shown-of t d) (calls t (sent us) s) ≡ map (shown-of t d) (calls t (sent vs) r) → wanted us ≡ wanted vs
-      → map (λ (x : Drove). x .actuator) (drives t us s a) ≡ map (λ (x : Drove). x .actuator) (drives t vs r a)
+      → map (shown-of t d) (calls t mode (sent us) s) ≡ map (shown-of t d) (calls t mode (sent vs) r) → wanted us ≡ wanted vs
+      → map (λ (x : Drove). x .actuator) (drives t mode us s a) ≡ map (λ (x : Drove). x .actuator) (drives t mode vs r a)
   unfolding drives in-turn calls
   same-actuators [] [] s r a h v e k = refl
   same-actuators [] (c ∷ vs) s r a h v e k = empty k
   same-actuators (b ∷ us) [] s r a h v e k = empty (sym k)
   same-actuators (b ∷ us) (c ∷ vs) s r a h v e k =
-      let m : driven t b s a .actuator ≡ driven t c r a .actuator = same-move b c s r a h v (heads e) (heads k) in
-      let p : driven t b s a .state ≡ taken t (b .input) s .state = ap (λ (x : Taken). x .state) (part-taken t b s a h) in
-      let q : driven t c r a .state ≡ taken t (c .input) r .state = ap (λ (x : Taken). x .state) (part-taken t c r a h) in
-      let f = ap (λ x. map (shown-of t d) (calls t (sent us) x)) p ∙ tails e ∙ sym (ap (λ x. map (shown-of t d) (calls t (sent vs) x)) q) in
+      let m : driven t mode b s a .actuator ≡ driven t mode c r a .actuator = same-move b c s r a h v (heads e) (heads k) in
+      let p : driven t mode b s a .state ≡ taken t mode (b .input) s .state = ap (λ (x : Taken). x .state) (part-taken t mode b s a h) in
+      let q : driven t mode c r a .state ≡ taken t mode (c .input) r .state = ap (λ (x : Taken). x .state) (part-taken t mode c r a h) in
+      let f = ap (λ x. map (shown-of t d) (calls t mode (sent us) x)) p ∙ tails e ∙ sym (ap (λ x. map (shown-of t d) (calls t mode (sent vs) x)) q) in
       ap₂ _∷_ m
-      (same-actuators us vs (driven t b s a .state) (driven t c r a .state) (driven t b s a .actuator) (accepted-stays t b s a h) (rw (thread-stays t b s a) v) f (tails k)
-      ∙ ap (λ y. map (λ (x : Drove). x .actuator) (drives t vs (driven t c r a .state) y)) m)
+      (same-actuators us vs (driven t mode b s a .state) (driven t mode c r a .state) (driven t mode b s a .actuator) (accepted-stays t mode b s a h) (rw (thread-stays t mode b s a) v) f (tails k)
+      ∙ ap (λ y. map (λ (x : Drove). x .actuator) (drives t mode vs (driven t mode c r a .state) y)) m)
 
 -- Not passed: the drives are shown the same, since their steps are, and the actuator stays.
-module _ (t : Table) (ok : legal t ≡ true) (z : Sized t) (d : ℕ) (dd : d < t .domains) where
+module _ (t : Table) (mode : Mode) (ok : legal t ≡ true) (z : Sized t) (d : ℕ) (dd : d < t .domains) where
   still-told : (a : Actuator) → accepted t a ≡ false → (b c : Brought) → Same-step t d (b .input) (c .input)
-      → driven t b (fresh t) a .told ≡ driven t c (fresh t) a .told
+      → driven t mode b (fresh t) a .told ≡ driven t mode c (fresh t) a .told
   unfolding shown-of calls in-turn
   still-told a h b c m =
-      let x : Told = taken t (b .input) (fresh t) .told in
-      let y : Told = taken t (c .input) (fresh t) .told in
-      let e = demand-3 t ok z d dd (b .input ∷ []) (c .input ∷ []) (next m ended) in
+      let x : Told = taken t mode (b .input) (fresh t) .told in
+      let y : Told = taken t mode (c .input) (fresh t) .told in
+      let e = demand-3 t mode ok z d dd (b .input ∷ []) (c .input ∷ []) (next m ended) in
       let q : telling t d x ≡ telling t d y = ap (λ (w : Shown-call). w .told) (heads e) in
-      ap (λ (w : Drove). w .told) (still t b (fresh t) a h)
-      ∙ both _≡_ (eqb (x .number) 0) (eqb (y .number) 0) (same-told t ok d dd x y q) (λ _. refl) (λ f. same-refused t ok d dd x y q f)
-      ∙ sym (ap (λ (w : Drove). w .told) (still t c (fresh t) a h))
+      ap (λ (w : Drove). w .told) (still t mode b (fresh t) a h)
+      ∙ both _≡_ (eqb (x .number) 0) (eqb (y .number) 0) (same-told t mode ok d dd x y q) (λ _. refl) (λ f. same-refused t mode ok d dd x y q f)
+      ∙ sym (ap (λ (w : Drove). w .told) (still t mode c (fresh t) a h))
 
   still-drives : (a : Actuator) → accepted t a ≡ false → (b : Brought) (bs : List Brought) (s : State)
-      → drives t bs (driven t b s a .state) (driven t b s a .actuator) ≡ drives t bs s a
-  still-drives a h b bs s = ap (λ (w : Drove). drives t bs (w .state) (w .actuator)) (still t b s a h)
+      → drives t mode bs (driven t mode b s a .state) (driven t mode b s a .actuator) ≡ drives t mode bs s a
+  still-drives a h b bs s = ap (λ (w : Drove). drives t mode bs (w .state) (w .actuator)) (still t mode b s a h)
 
   still-shown : (a : Actuator) → accepted t a ≡ false → (us vs : List Brought) → Same-steps t d (sent us) (sent vs)
-      → map (λ (r : Drove). shown-of t d (step-part r)) (drives t us (fresh t) a) ≡ map (λ (r : Drove). shown-of t d (step-part r)) (drives t vs (fresh t) a)
+      → map (λ (r : Drove). shown-of t d (step-part r)) (drives t mode us (fresh t) a) ≡ map (λ (r : Drove). shown-of t d (step-part r)) (drives t mode vs (fresh t) a)
   unfolding drives in-turn
   still-shown a h [] [] ended = refl
   still-shown a h (b ∷ us) (c ∷ vs) (next m more) =
       let n = still-told a h b c m in
-      let u : driven t b (fresh t) a .state ≡ driven t c (fresh t) a .state = ap (λ (w : Drove). w .state) (still t b (fresh t) a h) ∙ sym (ap (λ (w : Drove). w .state) (still t c (fresh t) a h)) in
-      let e : step-part (driven t b (fresh t) a) ≡ step-part (driven t c (fresh t) a) = λ i. record { told = n i; state = u i } in
+      let u : driven t mode b (fresh t) a .state ≡ driven t mode c (fresh t) a .state = ap (λ (w : Drove). w .state) (still t mode b (fresh t) a h) ∙ sym (ap (λ (w : Drove). w .state) (still t mode c (fresh t) a h)) in
+      let e : step-part (driven t mode b (fresh t) a) ≡ step-part (driven t mode c (fresh t) a) = λ i. record { told = n i; state = u i } in
       let show : List Drove → List Shown-call = map (λ (r : Drove). shown-of t d (step-part r)) in
       ap₂ _∷_ (ap (shown-of t d) e)
       (ap show (still-drives a h b us (fresh t)) ∙ still-shown a h us vs more ∙ sym (ap show (still-drives a h c vs (fresh t))))
 
   still-actuators : (a : Actuator) → accepted t a ≡ false → (us vs : List Brought) → wanted us ≡ wanted vs
-      → map (λ (r : Drove). r .actuator) (drives t us (fresh t) a) ≡ map (λ (r : Drove). r .actuator) (drives t vs (fresh t) a)
+      → map (λ (r : Drove). r .actuator) (drives t mode us (fresh t) a) ≡ map (λ (r : Drove). r .actuator) (drives t mode vs (fresh t) a)
   unfolding drives in-turn
   still-actuators a h [] [] k = refl
   still-actuators a h [] (c ∷ vs) k = empty k
   still-actuators a h (b ∷ us) [] k = empty (sym k)
   still-actuators a h (b ∷ us) (c ∷ vs) k =
-      ap₂ _∷_ (ap (λ (w : Drove). w .actuator) (still t b (fresh t) a h) ∙ sym (ap (λ (w : Drove). w .actuator) (still t c (fresh t) a h)))
+      ap₂ _∷_ (ap (λ (w : Drove). w .actuator) (still t mode b (fresh t) a h) ∙ sym (ap (λ (w : Drove). w .actuator) (still t mode c (fresh t) a h)))
       (ap (map (λ (r : Drove). r .actuator)) (still-drives a h b us (fresh t)) ∙ still-actuators a h us vs (tails k) ∙ sym (ap (map (λ (r : Drove). r .actuator)) (still-drives a h c vs (fresh t))))
 
-pub isolated-drives : (t : Table) → legal t ≡ true → Sized t → Isolated-drives t
-isolated-drives t ok z d dd a us vs m =
+pub isolated-drives : (t : Table) (mode : Mode) → legal t ≡ true → Sized t → Isolated-drives t mode
+isolated-drives t mode ok z d dd a us vs m =
     by-test (accepted t a)
-    (λ h. shown-drives t ok d dd us (fresh t) a h ∙ demand-3 t ok z d dd (sent us) (sent vs) m ∙ sym (shown-drives t ok d dd vs (fresh t) a h))
-    (λ h. still-shown t ok z d dd a h us vs m)
+    (λ h. shown-drives t mode ok d dd us (fresh t) a h ∙ demand-3 t mode ok z d dd (sent us) (sent vs) m ∙ sym (shown-drives t mode ok d dd vs (fresh t) a h))
+    (λ h. still-shown t mode ok z d dd a h us vs m)
 
 -- Position and last command alike, at every step.
-pub isolated-actuators : (t : Table) → legal t ≡ true → Sized t → (d : ℕ) → d < t .domains → (a : Actuator) → visible t d (a .thread) ≡ true
-    → (us vs : List Brought) → Same-runs t d us vs → map (λ (r : Drove). r .actuator) (drives t us (fresh t) a) ≡ map (λ (r : Drove). r .actuator) (drives t vs (fresh t) a)
-isolated-actuators t ok z d dd a v us vs m =
+pub isolated-actuators : (t : Table) (mode : Mode) → legal t ≡ true → Sized t → (d : ℕ) → d < t .domains → (a : Actuator) → visible t d (a .thread) ≡ true
+    → (us vs : List Brought) → Same-runs t d us vs → map (λ (r : Drove). r .actuator) (drives t mode us (fresh t) a) ≡ map (λ (r : Drove). r .actuator) (drives t mode vs (fresh t) a)
+isolated-actuators t mode ok z d dd a v us vs m =
     by-test (accepted t a)
-    (λ h. same-actuators t ok d dd us vs (fresh t) (fresh t) a h v (demand-3 t ok z d dd (sent us) (sent vs) (m .steps)) (m .commands))
-    (λ h. still-actuators t ok z d dd a h us vs (m .commands))
+    (λ h. same-actuators t mode ok d dd us vs (fresh t) (fresh t) a h v (demand-3 t mode ok z d dd (sent us) (sent vs) (m .steps)) (m .commands))
+    (λ h. still-actuators t mode ok z d dd a h us vs (m .commands))
 
-pub same-positions : (t : Table) → legal t ≡ true → Sized t → Same-positions t
+pub same-positions : (t : Table) (mode : Mode) → legal t ≡ true → Sized t → Same-positions t mode
 unfolding positions actuators
-same-positions t ok z d dd a v us vs m = ap (λ l. map (λ (x : Actuator). x .position) (a ∷ l)) (isolated-actuators t ok z d dd a v us vs m)
+same-positions t mode ok z d dd a v us vs m = ap (λ l. map (λ (x : Actuator). x .position) (a ∷ l)) (isolated-actuators t mode ok z d dd a v us vs m)

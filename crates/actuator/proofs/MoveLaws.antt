@@ -16,6 +16,7 @@ use Rattle.table.specs.declared.Table.{Table}
 use Rattle.scheduler.specs.Taken.{taken}
 use Rattle.scheduler.specs.Taken.{answer-of}
 use Rattle.state.specs.declared.State.{State}
+use Rattle.frame.specs.Mode.{Mode}
 use Rattle.actuator.specs.Motion.{in-range, ranged, distance, towards, way, moved}
 use Rattle.actuator.specs.Drive.{Brought, Drove, commanded, moved-to, follows, driven}
 use Rattle.actuator.specs.Runs.{Between}
@@ -143,41 +144,41 @@ moved-ranged a c r f =
     and-of (q .0) (and-of (moved-in (a .rate) (a .position) c (ranged-position a r) f) f)
 
 -- What a drive does to the actuator.
-pub data Case (t : Table) (b : Brought) (s : State) (a : Actuator) : Type 0 where
-  stays : driven t b s a .told .number ≢ 0 → driven t b s a .actuator ≡ a → Case t b s a
-  goes : (c : ℤ) → ranged a ≡ true → in-range c ≡ true → driven t b s a .actuator ≡ moved-to a c → Case t b s a
+pub data Case (t : Table) (mode : Mode) (b : Brought) (s : State) (a : Actuator) : Type 0 where
+  stays : driven t mode b s a .told .number ≢ 0 → driven t mode b s a .actuator ≡ a → Case t mode b s a
+  goes : (c : ℤ) → ranged a ≡ true → in-range c ≡ true → driven t mode b s a .actuator ≡ moved-to a c → Case t mode b s a
 
-pub case-of : (t : Table) (b : Brought) (s : State) (a : Actuator) → Case t b s a
+pub case-of : (t : Table) (mode : Mode) (b : Brought) (s : State) (a : Actuator) → Case t mode b s a
 unfolding driven follows pick
-case-of t b s a =
-    by-test (eqb (taken t (b .input) s .told .number) 0)
+case-of t mode b s a =
+    by-test (eqb (taken t mode (b .input) s .told .number) 0)
     (λ e. by-test (ltb (a .thread) (t .count))
     (λ f. by-test (ranged a)
-    (λ r. let n = answer-of (taken t (b .input) s .told .values) in
+    (λ r. let n = answer-of (taken t mode (b .input) s .told .values) in
     goes (commanded a n (b .command)) r (commanded-in a r n (b .command)) (rw (e, f, r)))
     (λ r. stays (rw (e, f, r) (λ z. omega arith)) (rw (e, f, r))))
     (λ f. stays (rw (e, f) (λ z. omega arith)) (rw (e, f))))
-    (λ e. stays (rw e (eqb-false (taken t (b .input) s .told .number) 0 e)) (rw e))
+    (λ e. stays (rw e (eqb-false (taken t mode (b .input) s .told .number) 0 e)) (rw e))
 
 -- So no later call of a run is refused with 20 for it.
-pub ranged-stays : (t : Table) (b : Brought) (s : State) (a : Actuator) → ranged a ≡ true → ranged (driven t b s a .actuator) ≡ true
-ranged-stays t b s a h = go (case-of t b s a)
+pub ranged-stays : (t : Table) (mode : Mode) (b : Brought) (s : State) (a : Actuator) → ranged a ≡ true → ranged (driven t mode b s a .actuator) ≡ true
+ranged-stays t mode b s a h = go (case-of t mode b s a)
   where
-    go : Case t b s a → ranged (driven t b s a .actuator) ≡ true
+    go : Case t mode b s a → ranged (driven t mode b s a .actuator) ≡ true
     go (stays z e) = rw e h
     go (goes c r f e) = rw e (moved-ranged a c r f)
 
 -- A drive that is not refused is the scheduler's step and the move to the command that then stands.
-pub drive-steps : (t : Table) (b : Brought) (s : State) (a : Actuator) → driven t b s a .told .number ≡ 0
-    → driven t b s a
+pub drive-steps : (t : Table) (mode : Mode) (b : Brought) (s : State) (a : Actuator) → driven t mode b s a .told .number ≡ 0
+    → driven t mode b s a
     ≡ record {
-      told = taken t (b .input) s .told;
-      state = taken t (b .input) s .state;
-      actuator = moved-to a (commanded a (answer-of (taken t (b .input) s .told .values)) (b .command));
+      told = taken t mode (b .input) s .told;
+      state = taken t mode (b .input) s .state;
+      actuator = moved-to a (commanded a (answer-of (taken t mode (b .input) s .told .values)) (b .command));
     }
 unfolding driven follows
-drive-steps t b s a =
-    let x = taken t (b .input) s in
+drive-steps t mode b s a =
+    let x = taken t mode (b .input) s in
     let w : Drove = record { told = x .told; state = x .state; actuator = moved-to a (commanded a (answer-of (x .told .values)) (b .command)) } in
     let P : Drove → Type 0 = λ y. y .told .number ≡ 0 → y ≡ w in
     either P (eqb (x .told .number) 0)

@@ -17,6 +17,7 @@ use Rattle.scheduler.specs.Taken.{taken}
 use Rattle.scheduler.specs.Numbered.{Numbered}
 use Rattle.state.specs.declared.State.{State}
 use Rattle.scheduler.proofs.RefusalLaws.{number-exactly, same-refusal}
+use Rattle.frame.specs.Mode.{Mode}
 use Rattle.actuator.specs.Motion.{lowest, highest, in-range, ranged}
 use Rattle.actuator.specs.Drive.{Brought, Drove, follows, driven}
 use Rattle.actuator.specs.Numbered.{In-range, Ranged, Drive-numbered, of-the-step, no-thread, out-of-range, moves}
@@ -66,63 +67,63 @@ ranged-complete a h =
 not-ranged : (a : Actuator) → (Ranged a → ⊥) → ranged a ≡ false
 not-ranged a h = by-test (ranged a) (λ e. absurd (h (ranged-sound a e))) (λ e. e)
 
-module _ (t : Table) (b : Brought) (s : State) (a : Actuator) where
+module _ (t : Table) (mode : Mode) (b : Brought) (s : State) (a : Actuator) where
   -- a row that holds gives its number, and one of the rows holds
-  only : {n : ℕ} → Drive-numbered t b s a n → driven t b s a .told .number ≡ n
+  only : {n : ℕ} → Drive-numbered t mode b s a n → driven t mode b s a .told .number ≡ n
   unfolding driven follows pick
   only (of-the-step {n} h z) =
-      let e : taken t (b .input) s .told .number ≡ n = number-exactly t (b .input) s n .1 h in
+      let e : taken t mode (b .input) s .told .number ≡ n = number-exactly t mode (b .input) s n .1 h in
       rw (e, ne-eqb n 0 z) e
   only (no-thread h k) =
-      let e : taken t (b .input) s .told .number ≡ 0 = number-exactly t (b .input) s 0 .1 h in
+      let e : taken t mode (b .input) s .told .number ≡ 0 = number-exactly t mode (b .input) s 0 .1 h in
       rw (e, le-ltb (a .thread) (t .count) k)
   only (out-of-range h k r) =
-      let e : taken t (b .input) s .told .number ≡ 0 = number-exactly t (b .input) s 0 .1 h in
+      let e : taken t mode (b .input) s .told .number ≡ 0 = number-exactly t mode (b .input) s 0 .1 h in
       rw (e, lt-ltb (a .thread) (t .count) k, not-ranged a r)
   only (moves h k r) =
-      let e : taken t (b .input) s .told .number ≡ 0 = number-exactly t (b .input) s 0 .1 h in
+      let e : taken t mode (b .input) s .told .number ≡ 0 = number-exactly t mode (b .input) s 0 .1 h in
       rw (e, lt-ltb (a .thread) (t .count) k, ranged-complete a r) e
 
-  here : {n : ℕ} → Drive-numbered t b s a n → Drive-numbered t b s a (driven t b s a .told .number)
-  here r = subst (λ (n : ℕ). Drive-numbered t b s a n) (sym (only r)) r
+  here : {n : ℕ} → Drive-numbered t mode b s a n → Drive-numbered t mode b s a (driven t mode b s a .told .number)
+  here r = subst (λ (n : ℕ). Drive-numbered t mode b s a n) (sym (only r)) r
 
-  given : Drive-numbered t b s a (driven t b s a .told .number)
+  given : Drive-numbered t mode b s a (driven t mode b s a .told .number)
   given =
-      by-test (eqb (taken t (b .input) s .told .number) 0)
-      (λ e. let h : Numbered t (b .input) s 0 = number-exactly t (b .input) s 0 .0 (eqb-true _ _ e) in
+      by-test (eqb (taken t mode (b .input) s .told .number) 0)
+      (λ e. let h : Numbered t mode (b .input) s 0 = number-exactly t mode (b .input) s 0 .0 (eqb-true _ _ e) in
       by-test (ltb (a .thread) (t .count))
       (λ f. by-test (ranged a) (λ r. here (moves h (ltb-true _ _ f) (ranged-sound a r)))
       (λ r. here (out-of-range h (ltb-true _ _ f) (λ k. refuted (ranged-complete a k) r))))
       (λ f. here (no-thread h (ltb-false _ _ f))))
-      (λ e. here (of-the-step (number-exactly t (b .input) s _ .0 refl) (eqb-false _ _ e)))
+      (λ e. here (of-the-step (number-exactly t mode (b .input) s _ .0 refl) (eqb-false _ _ e)))
 
   -- each number, and 0, exactly when its row holds; a number without a row never
-  pub drive-number-exactly : (n : ℕ) → (driven t b s a .told .number ≡ n) ↔ Drive-numbered t b s a n
-  drive-number-exactly n = (λ e. subst (λ (k : ℕ). Drive-numbered t b s a k) e given, λ r. only r)
+  pub drive-number-exactly : (n : ℕ) → (driven t mode b s a .told .number ≡ n) ↔ Drive-numbered t mode b s a n
+  drive-number-exactly n = (λ e. subst (λ (k : ℕ). Drive-numbered t mode b s a k) e given, λ r. only r)
 
 -- A refused drive hands back the state and the actuator that it was given.
-pub drive-refused-keeps : (t : Table) (b : Brought) (s : State) (a : Actuator) → 0 < driven t b s a .told .number
-    → (driven t b s a .state ≡ s) × (driven t b s a .actuator ≡ a)
+pub drive-refused-keeps : (t : Table) (mode : Mode) (b : Brought) (s : State) (a : Actuator) → 0 < driven t mode b s a .told .number
+    → (driven t mode b s a .state ≡ s) × (driven t mode b s a .actuator ≡ a)
 unfolding driven follows
-drive-refused-keeps t b s a =
+drive-refused-keeps t mode b s a =
     let P : Drove → Type 0 = λ x. 0 < x .told .number → (x .state ≡ s) × (x .actuator ≡ a) in
-    let n : ℕ = taken t (b .input) s .told .number in
+    let n : ℕ = taken t mode (b .input) s .told .number in
     either P (eqb n 0)
     (λ e. both-ways P _ _ _
-    (both-ways P _ _ _ (λ h. absurd (omega (arith, eqb-true (taken t (b .input) s .told .number) 0 e))) (λ h. (refl, refl)))
+    (both-ways P _ _ _ (λ h. absurd (omega (arith, eqb-true (taken t mode (b .input) s .told .number) 0 e))) (λ h. (refl, refl)))
     (λ h. (refl, refl)))
     (λ e h. (refl, refl))
 
 -- The number hangs on the mask and on how many bytes there are, and neither on what they are nor on the command.
-pub drive-same-refusal : (t : Table) (b c : Brought) (s : State) (a : Actuator) → b .input .mask ≡ c .input .mask
+pub drive-same-refusal : (t : Table) (mode : Mode) (b c : Brought) (s : State) (a : Actuator) → b .input .mask ≡ c .input .mask
     → length (b .input .bytes) ≡ length (c .input .bytes)
-    → driven t b s a .told .number ≡ driven t c s a .told .number
-drive-same-refusal t b c s a e l = only t b s a (moved (given t c s a))
+    → driven t mode b s a .told .number ≡ driven t mode c s a .told .number
+drive-same-refusal t mode b c s a e l = only t mode b s a (moved (given t mode c s a))
   where
-    numbered : {n : ℕ} → Numbered t (c .input) s n → Numbered t (b .input) s n
-    numbered {n} h = number-exactly t (b .input) s n .0 (same-refusal t (b .input) (c .input) s e l ∙ number-exactly t (c .input) s n .1 h)
+    numbered : {n : ℕ} → Numbered t mode (c .input) s n → Numbered t mode (b .input) s n
+    numbered {n} h = number-exactly t mode (b .input) s n .0 (same-refusal t mode (b .input) (c .input) s e l ∙ number-exactly t mode (c .input) s n .1 h)
 
-    moved : {n : ℕ} → Drive-numbered t c s a n → Drive-numbered t b s a n
+    moved : {n : ℕ} → Drive-numbered t mode c s a n → Drive-numbered t mode b s a n
     moved (of-the-step h z) = of-the-step (numbered h) z
     moved (no-thread h k) = no-thread (numbered h) k
     moved (out-of-range h k r) = out-of-range (numbered h) k r

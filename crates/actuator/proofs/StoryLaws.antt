@@ -13,6 +13,7 @@ use Rattle.sight.specs.Shown.{visible}
 use Rattle.isolation.specs.Isolated.{ended, next}
 use Rattle.isolation.proofs.OnStory.{story-legal, same-step}
 use Rattle.actuator.specs.Motion.{start}
+use Rattle.frame.specs.Mode.{unframed}
 use Rattle.walk.specs.Step.{quiet}
 use Rattle.actuator.specs.Drive.{Brought}
 use Rattle.actuator.specs.Runs.{positions, Same-runs}
@@ -43,8 +44,8 @@ same-runs (x ∷ xs) (y ∷ ys) (c ∷ cs) h =
 
 -- The actuator may start anywhere and have any rate.
 pub whatever-the-monitor-sends : (xs ys : List ℕ) (cs : List ℤ) → length xs ≡ length ys → (p : ℤ) (rate : ℕ)
-    → positions story (monitor-sends xs cs) (fresh story) (start p rate 0) ≡ positions story (monitor-sends ys cs) (fresh story) (start p rate 0)
+    → positions story unframed (monitor-sends xs cs) (fresh story) (start p rate 0) ≡ positions story unframed (monitor-sends ys cs) (fresh story) (start p rate 0)
 unfolding start
 whatever-the-monitor-sends xs ys cs h p rate =
-    same-positions story story-legal (record { rows = refl; threads = refl }) 0 (lit< tt) (start p rate 0) pitch-seen
+    same-positions story unframed story-legal (record { rows = refl; threads = refl }) 0 (lit< tt) (start p rate 0) pitch-seen
     (monitor-sends xs cs) (monitor-sends ys cs) (same-runs xs ys cs h)

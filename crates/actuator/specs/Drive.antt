@@ -10,6 +10,7 @@ use Rattle.table.specs.declared.Table.{Table}
 use Rattle.scheduler.specs.Taken.{Taken, taken, told}
 use Rattle.scheduler.specs.Taken.{answer-of}
 use Rattle.state.specs.declared.State.{State}
+use Rattle.frame.specs.Mode.{Mode}
 use Rattle.walk.specs.Step.{Input}
 use Rattle.walk.specs.declared.Answer.{Answer}
 use Rattle.walk.specs.declared.Answer.the-variants.{Ran, IdleFor, Idle}
@@ -57,8 +58,8 @@ follows t x s a r =
     (refused-drive (refused 15) s a))
     (refused-drive (r .told) s a)
 
-unfoldable pub driven : Table → Brought → State → Actuator → Drove
-driven t b s a = follows t (b .command) s a (taken t (b .input) s)
+unfoldable pub driven : Table → Mode → Brought → State → Actuator → Drove
+driven t mode b s a = follows t (b .command) s a (taken t mode (b .input) s)
 
 -- What an answer of the code gives.
 abbrev pub drove-of : Driven → Drove

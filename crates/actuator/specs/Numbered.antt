@@ -4,6 +4,7 @@ use mathlib.Core.Logic.{_≢_}
 use lib.IntN.{ℤ}
 use lib.Signed.{_≤ℤ_}
 use Rattle.table.specs.declared.Table.{Table}
+use Rattle.frame.specs.Mode.{Mode}
 use Rattle.scheduler.specs.Numbered.{Numbered}
 use Rattle.state.specs.declared.State.{State}
 use Rattle.actuator.specs.Motion.{lowest, highest}
@@ -21,12 +22,12 @@ pub record Ranged (a : Actuator) : Type 0 where
   pub position : In-range (a .position)
   pub command : In-range (a .command)
 
-pub data Drive-numbered (t : Table) (b : Brought) (s : State) (a : Actuator) : ℕ → Type 0 where
+pub data Drive-numbered (t : Table) (mode : Mode) (b : Brought) (s : State) (a : Actuator) : ℕ → Type 0 where
   -- the step's own number
-  of-the-step : {n : ℕ} → Numbered t (b .input) s n → n ≢ 0 → Drive-numbered t b s a n
+  of-the-step : {n : ℕ} → Numbered t mode (b .input) s n → n ≢ 0 → Drive-numbered t mode b s a n
   -- 15: no such thread as the one named
-  no-thread : Numbered t (b .input) s 0 → t .count ≤ a .thread → Drive-numbered t b s a 15
+  no-thread : Numbered t mode (b .input) s 0 → t .count ≤ a .thread → Drive-numbered t mode b s a 15
   -- 20: rate, position or stored command outside its range
-  out-of-range : Numbered t (b .input) s 0 → a .thread < t .count → (Ranged a → ⊥) → Drive-numbered t b s a 20
+  out-of-range : Numbered t mode (b .input) s 0 → a .thread < t .count → (Ranged a → ⊥) → Drive-numbered t mode b s a 20
   -- 0: a step and a move
-  moves : Numbered t (b .input) s 0 → a .thread < t .count → Ranged a → Drive-numbered t b s a 0
+  moves : Numbered t mode (b .input) s 0 → a .thread < t .count → Ranged a → Drive-numbered t mode b s a 0

@@ -2,11 +2,17 @@
 ghost use mathlib.Core.Path.{_≡_};
 ghost use mathlib.Core.List.{[]};
 ghost use Rattle.actuator.specs.Motion.{start as the-start};
-ghost use Rattle.actuator.specs.Drive.{driven, drove-of};
+ghost use Rattle.frame.specs.Mode.{unframed, framed};
+ghost use Rattle.scheduler.specs.Taken.{taken-of};
+ghost use Rattle.actuator.specs.Drive.{follows, driven, drove-of};
+ghost use Rattle.actuator.specs.Given.{Numbers};
 use scheduler::Answer;
+use scheduler::Frame;
 use scheduler::Outcome;
 use scheduler::State;
+use scheduler::Stepped;
 use scheduler::step;
+use scheduler::step_in_frame;
 use table::Table;
 
 mod motion;
@@ -52,11 +58,11 @@ fn refuse(why: u8, s: State, a: Actuator) -> Driven
     }
 }
 
-// One step and one move: the step's own refusals, 15, 20, or the answer with the next state and actuator.
-pub fn drive(t: Table, s: State, a: Actuator, mask: u32, bytes: &[u8], command: i64) -> Driven
-    ensures { λ r. ⌜ drove-of r ≡ driven t (record { input = record { mask = mask; bytes = now (bytes .entry) }; command = command }) s a ⌝ }
+// The move that follows a step, or its refusal: the step's own, 15, 20, or the answer with the next state and actuator.
+fn follow(t: Table, s: State, a: Actuator, command: i64, r: Stepped) -> Driven
+    requires { ⌜ Numbers (r .outcome) ⌝ }
+    ensures { λ d. ⌜ drove-of d ≡ follows t command s a (taken-of r) ⌝ }
 {
-    let r = step(t, s, mask, bytes);
     let o = r.outcome;
     match o {
         Outcome::Chose(answer) => {
@@ -76,4 +82,28 @@ pub fn drive(t: Table, s: State, a: Actuator, mask: u32, bytes: &[u8], command: 
         }
         Outcome::Refused(why) => refuse(why, s, a),
     }
+}
+
+// One step and one move: the step's own refusals, 15, 20, or the answer with the next state and actuator.
+pub fn drive(t: Table, s: State, a: Actuator, mask: u32, bytes: &[u8], command: i64) -> Driven
+    ensures { λ r. ⌜ drove-of r ≡ driven t unframed (record { input = record { mask = mask; bytes = now (bytes .entry) }; command = command }) s a ⌝ }
+{
+    let r = step(t, s, mask, bytes);
+    follow(t, s, a, command, r)
+}
+
+// The same in a frame.
+pub fn drive_in_frame(
+    t: Table,
+    f: Frame,
+    s: State,
+    a: Actuator,
+    mask: u32,
+    bytes: &[u8],
+    command: i64,
+) -> Driven
+    ensures { λ r. ⌜ drove-of r ≡ driven t (framed f) (record { input = record { mask = mask; bytes = now (bytes .entry) }; command = command }) s a ⌝ }
+{
+    let r = step_in_frame(t, f, s, mask, bytes);
+    follow(t, s, a, command, r)
 }

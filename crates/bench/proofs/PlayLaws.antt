@@ -22,8 +22,9 @@ use Rattle.state.specs.declared.State.{State}
 use Rattle.scheduler.specs.declared.Outcome.{Outcome}
 use Rattle.scheduler.specs.declared.Outcome.the-variants.{Chose, Refused}
 use Rattle.walk.specs.Step.{Input, quiet, step}
+use Rattle.frame.specs.Mode.{unframed}
 use Rattle.scheduler.specs.Taken.{Taken, values, taken, took}
-use Rattle.scheduler.specs.Numbered.{Numbered, not-legal, not-fitting, not-one-each, no-event, at-last, steps}
+use Rattle.scheduler.specs.Numbered.{Numbered, not-legal, bad-frame, not-fitting, not-one-each, no-event, at-last, steps}
 use Rattle.scheduler.proofs.RefusalLaws.{number-exactly, taken-steps}
 use Rattle.scheduler.proofs.UniqueLaws.{told-injective}
 use Rattle.writer.specs.Buffer.{Put}
@@ -35,27 +36,28 @@ use Rattle.bench.specs.declared.play.Played.{Played}
 
 -- A call that is not refused is the step.
 module _ (t : Table) (x : Input) (s : State) where
-  stepping : {n : ℕ} → Numbered t x s n → n ≡ 0 → taken t x s ≡ took (step t x s)
+  stepping : {n : ℕ} → Numbered t unframed x s n → n ≡ 0 → taken t unframed x s ≡ took (step t unframed x s)
   stepping (not-legal a) e = absurd (omega arith)
-  stepping (not-fitting a b) e = absurd (omega arith)
-  stepping (not-one-each a b c) e = absurd (omega arith)
-  stepping (no-event a b c m) e = absurd (omega arith)
-  stepping (at-last a b c m d) e = absurd (omega arith)
-  stepping (steps a b c m d) e = taken-steps t x s a b c m d
+  stepping (bad-frame a o) e = absurd (omega arith)
+  stepping (not-fitting a o b) e = absurd (omega arith)
+  stepping (not-one-each a o b c) e = absurd (omega arith)
+  stepping (no-event a o b c m) e = absurd (omega arith)
+  stepping (at-last a o b c m d) e = absurd (omega arith)
+  stepping (steps a o b c m d) e = taken-steps t unframed x s a o b c m d
 
-  answer-taken : (a : Answer) (s' : State) → taken t x s ≡ record { told = answered (values a); state = s' } → step t x s .answer ≡ a
+  answer-taken : (a : Answer) (s' : State) → taken t unframed x s ≡ record { told = answered (values a); state = s' } → step t unframed x s .answer ≡ a
   answer-taken a s' e =
-      let n : taken t x s .told .number ≡ 0 = ap (λ (k : Taken). k .told .number) e in
-      let f : taken t x s ≡ took (step t x s) = stepping (number-exactly t x s 0 .0 n) refl in
-      let g : Chose (step t x s .answer) ≡ Chose a = told-injective _ _ (ap (λ (k : Taken). k .told) (sym f ∙ e)) in
+      let n : taken t unframed x s .told .number ≡ 0 = ap (λ (k : Taken). k .told .number) e in
+      let f : taken t unframed x s ≡ took (step t unframed x s) = stepping (number-exactly t unframed x s 0 .0 n) refl in
+      let g : Chose (step t unframed x s .answer) ≡ Chose a = told-injective _ _ (ap (λ (k : Taken). k .told) (sym f ∙ e)) in
       cc
 
   -- a refusal has a number
-  refusal-some : (why : ℕ) (s' : State) → taken t x s ≡ record { told = refused why; state = s' } → why ≡ 0 → ⊥
+  refusal-some : (why : ℕ) (s' : State) → taken t unframed x s ≡ record { told = refused why; state = s' } → why ≡ 0 → ⊥
   refusal-some why s' e z =
-      let n : taken t x s .told .number ≡ why = ap (λ (k : Taken). k .told .number) e in
-      let f : taken t x s ≡ took (step t x s) = stepping (number-exactly t x s 0 .0 (n ∙ z)) refl in
-      let g : Chose (step t x s .answer) ≡ Refused why = told-injective _ _ (ap (λ (k : Taken). k .told) (sym f ∙ e)) in
+      let n : taken t unframed x s .told .number ≡ why = ap (λ (k : Taken). k .told .number) e in
+      let f : taken t unframed x s ≡ took (step t unframed x s) = stepping (number-exactly t unframed x s 0 .0 (n ∙ z)) refl in
+      let g : Chose (step t unframed x s .answer) ≡ Refused why = told-injective _ _ (ap (λ (k : Taken). k .told) (sym f ∙ e)) in
       let q : _≡_ {A = ℕ} 0 1 = cc in
       omega arith
 
@@ -67,14 +69,14 @@ module _ (t : Table) (bs b : List ℕ) (p : Played) where
 
   -- a step that was taken adds its line
   pub plays-chose : (a : Answer) (s' : State) (b' : List ℕ) (next : ℕ) → p .why ≡ 0
-      → taken t (quiet bs) (p .state) ≡ record { told = answered (values a); state = s' } → Put b (p .next) b' next (step-line (p .state .clock) a)
+      → taken t unframed (quiet bs) (p .state) ≡ record { told = answered (values a); state = s' } → Put b (p .next) b' next (step-line (p .state .clock) a)
       → Plays b p b' (record { state = s'; why = 0; next = next }) (play t bs (run-of p))
   unfolding play with-step pick
   plays-chose a s' b' next z e f = rw (eq-eqb _ _ z, answer-taken t (quiet bs) (p .state) a s' e, e) (record { state = refl; why = refl; put = f })
 
   -- a refused one ends the run
   pub plays-refused : (why : ℕ) (s' : State) → p .why ≡ 0
-      → taken t (quiet bs) (p .state) ≡ record { told = refused why; state = s' }
+      → taken t unframed (quiet bs) (p .state) ≡ record { told = refused why; state = s' }
       → Plays b p b (record { state = s'; why = why; next = p .next }) (play t bs (run-of p))
   unfolding play with-step pick
   plays-refused why s' z e =

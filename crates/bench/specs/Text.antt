@@ -10,6 +10,7 @@ use Rattle.basis.specs.Ceil.{ceil}
 use Rattle.table.specs.declared.Table.{Table}
 use Rattle.reader.specs.Reader.{Read, reading}
 use Rattle.state.specs.State.{fresh}
+use Rattle.frame.specs.Mode.{unframed}
 use Rattle.walk.specs.Step.{quiet, step}
 use Rattle.scheduler.specs.Taken.{Taken, taken}
 use Rattle.walk.specs.declared.Answer.{Answer}
@@ -32,7 +33,7 @@ with-step r a k = record {
 
 -- One step more, with these bytes and an empty mask, unless the run has ended.
 unfoldable pub play : Table → List ℕ → Run → Run
-play t bs r = pick (eqb (r .why) 0) (with-step r (step t (quiet bs) (r .state) .answer) (taken t (quiet bs) (r .state))) r
+play t bs r = pick (eqb (r .why) 0) (with-step r (step t unframed (quiet bs) (r .state) .answer) (taken t unframed (quiet bs) (r .state))) r
 
 -- The bytes of step k where each step has n: the last may have fewer.
 abbrev pub bytes-of : ℕ → ℕ → List ℕ → List ℕ

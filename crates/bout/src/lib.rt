@@ -8,6 +8,7 @@ pub use play::fresh;
 pub use play::marks;
 pub use play::some_length;
 pub use play::step;
+pub use play::step_in_frame;
 pub use views::shown;
 pub use views::shown_state;
 
@@ -17,6 +18,9 @@ pub const RAN: u32 = 1;
 pub const IDLE_FOR: u32 = 2;
 
 pub const IDLE: u32 = 3;
+
+// A step in a frame is counted so many places on from there; its refusal is not.
+pub const IN_FRAME: u32 = 3;
 
 // A step refused with a number is counted so many places on from here.
 pub const REFUSED: u32 = 0;

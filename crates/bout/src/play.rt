@@ -1,6 +1,7 @@
 // Both sides play, and the kind of what they say is told where they agree.
 use crate::IDLE;
 use crate::IDLE_FOR;
+use crate::IN_FRAME;
 use crate::LOST;
 use crate::MARKED;
 use crate::NO_EVENT;
@@ -16,6 +17,7 @@ use dice::below8;
 use same::outcome_number;
 use same::same_state;
 use scheduler::Answer;
+use scheduler::Frame;
 use scheduler::Outcome;
 use scheduler::Progress;
 use scheduler::Starting;
@@ -53,9 +55,7 @@ fn is_same(ours: Stepped, theirs: Stepped, s: State) -> bool {
     (number == outcome_number(b)) & same_state(ours.state, theirs.state) & unmoved
 }
 
-fn both(t: Table, s: State, mask: u32, bytes: &[u8]) -> Played {
-    let ours = scheduler::step(t, s, mask, bytes);
-    let theirs = rival::step(t, s, mask, bytes);
+fn compare(ours: Stepped, theirs: Stepped, s: State) -> Played {
     let o = ours.outcome;
     let state = ours.state;
     let kind = if is_same(ours, theirs, s) {
@@ -66,6 +66,22 @@ fn both(t: Table, s: State, mask: u32, bytes: &[u8]) -> Played {
     Played { kind, state }
 }
 
+fn both(t: Table, s: State, mask: u32, bytes: &[u8]) -> Played {
+    let ours = scheduler::step(t, s, mask, bytes);
+    let theirs = rival::step(t, s, mask, bytes);
+    compare(ours, theirs, s)
+}
+
+fn both_in_frame(t: Table, f: Frame, s: State, mask: u32, bytes: &[u8]) -> Played {
+    let ours = scheduler::step_in_frame(t, f, s, mask, bytes);
+    let theirs = rival::step_in_frame(t, f, s, mask, bytes);
+    let mut r = compare(ours, theirs, s);
+    if r.kind <= IDLE {
+        r.kind = r.kind + IN_FRAME;
+    }
+    r
+}
+
 // A step with the events of a mask, on the first n bytes.
 pub fn step(t: Table, s: State, mask: u32, bytes: &[u8], n: u8) -> Played {
     let end = n as usize;
@@ -73,6 +89,15 @@ pub fn step(t: Table, s: State, mask: u32, bytes: &[u8], n: u8) -> Played {
         return both(t, s, mask, &bytes[..end]);
     }
     both(t, s, mask, bytes)
+}
+
+// The same in a frame.
+pub fn step_in_frame(t: Table, f: Frame, s: State, mask: u32, bytes: &[u8], n: u8) -> Played {
+    let end = n as usize;
+    if end <= bytes.len() {
+        return both_in_frame(t, f, s, mask, &bytes[..end]);
+    }
+    both_in_frame(t, f, s, mask, bytes)
 }
 
 // What becomes of thread i's event in a step that is made, for the count alone: the thread is released, or the event came too early.

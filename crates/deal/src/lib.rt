@@ -1,8 +1,11 @@
-// Random legal tables, states that fit them, step bytes and masks of events, each worked out from a seed.
+// Random legal tables, states that fit them, frames, step bytes and masks of events, each worked out from a seed.
+mod frames;
 mod inputs;
 mod states;
 mod tables;
 
+pub use frames::any_frame;
+pub use frames::frame;
 pub use inputs::bytes;
 pub use inputs::mask;
 pub use states::state;

@@ -26,6 +26,9 @@ use Rattle.state.proofs.FitLaws.{fits-sound, fits-complete, longest-event, long
 use Rattle.state.proofs.StartLaws.{fresh-refused, fresh-answered, fresh-zero, fresh-legal, fresh-clock, fresh-event, fresh-periodic}
 use Rattle.state.proofs.TickLaws.{tick-leaves}
 use Rattle.state.proofs.ReleaseLaws.{releases-exactly, release-at, clock-released, event-released, at-release, before-offset, other-phases, past-deadline, at-event, early-event, before-deadline, after-deadline}
+use Rattle.frame.proofs.FrameLaws.{ok-framed, framed-timed, falls, falls-once, starts, repeats-ever}
+use Rattle.frame.proofs.ModeLaws.{unframed-passes, frames-exactly, unframed-walks, framed-walks, window-domain}
+use Rattle.walk.proofs.OutsideLaws.{chosen-walks, outside-stays}
 use Rattle.walk.proofs.StepLaws.{step-clock, chosen-rested}
 use Rattle.walk.proofs.ReachedLaws.{runs-exactly, two-finishes, strange-waits}
 use Rattle.walk.proofs.CountLaws.{rest-stays, step-counts, step-runs}
@@ -35,6 +38,7 @@ use Rattle.walk.proofs.ReleasedLaws.{releases-apart, releases-most-in, since-gr
 use Rattle.walk.proofs.ChoiceLaws.{below-chosen, idle-only, chosen-first, chosen-says, reached-pay-one, reached-marks}
 use Rattle.scheduler.proofs.RefusalLaws.{number-exactly, refused-keeps, same-refusal, taken-steps, mask-exactly}
 use Rattle.scheduler.proofs.CallLaws.{calls-steps}
+use Rattle.scheduler.proofs.HeardLaws.{outside-unheard}
 use Rattle.sight.specs.Shown.{showing-state, threads-shown}
 use Rattle.sight.proofs.SightLaws.{visible-exactly, seen-at, hidden-at}
 use Rattle.sight.proofs.NumberLaws.{view-number-exactly, state-number-exactly, refused-zeros}
@@ -68,6 +72,8 @@ demand-1-holds = record {
   bytes-judged = judged-exactly;
   refused-table = refused-zero;
   step-numbered = number-exactly;
+  unframed-passes = unframed-passes;
+  frames-exactly = frames-exactly;
   mask-exactly = mask-exactly;
   legal-exactly = λ t z. (legal-sound t z, legal-complete t);
   fits-exactly = λ t s few long. (fits-sound t s few long, fits-complete t s);
@@ -101,7 +107,7 @@ demand-2-holds = record {
   marks-name = marks-name;
   marked-exactly = λ t i. (mark-sound t i, mark-complete t i);
   set-exactly = set-exactly;
-  call-steps = λ t ok x e m s f l. taken-steps t x s ok (fits-complete t s f) e m l;
+  call-steps = λ t mode ok o x e m s f l. taken-steps t mode x s ok o (fits-complete t s f) e m l;
   run-steps = calls-steps;
   fresh-legal = fresh-legal;
   fresh-clock = fresh-clock;
@@ -128,6 +134,16 @@ demand-2-holds = record {
   reached-pay-one = reached-pay-one;
   below-chosen = below-chosen;
   pays-once = pays-once;
+  chosen-walks = chosen-walks;
+  outside-stays = outside-stays;
+  outside-unheard = outside-unheard;
+  unframed-walks = unframed-walks;
+  framed-walks = framed-walks;
+  window-falls = λ t f ok. falls f (framed-timed t f (ok-framed t f ok));
+  window-once = falls-once;
+  window-first = λ t f ok. starts f (framed-timed t f (ok-framed t f ok));
+  window-repeats = repeats-ever;
+  window-domain = window-domain;
   reached-marks = reached-marks;
   releases-exactly = releases-exactly;
   releases-apart = releases-apart;
@@ -151,8 +167,8 @@ demand-2-holds = record {
 
 pub demand-3-holds : Demand-3
 demand-3-holds = record {
-  isolated = λ t g. demand-3 t (legal-complete t g) (g .sized);
-  shown-throughout = λ t g. state-always-shown t (legal-complete t g);
+  isolated = λ t mode g. demand-3 t mode (legal-complete t g) (g .sized);
+  shown-throughout = λ t mode g. state-always-shown t mode (legal-complete t g);
   told-answers = telling-chosen;
   told-refusals = telling-refused;
   visible-exactly = visible-exactly;

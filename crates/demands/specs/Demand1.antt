@@ -20,6 +20,9 @@ use Rattle.codec.specs.Judging.{Judgment}
 use Rattle.state.specs.State.{no-progress, longest-since, fits, Fits, no-state, starting, fresh-given}
 use Rattle.state.specs.declared.Progress.{Progress}
 use Rattle.state.specs.declared.State.{State}
+use Rattle.frame.specs.Frame.{Framed}
+use Rattle.frame.specs.Mode.{Mode, unframed, framed, mode-ok}
+use Rattle.frame.specs.declared.Frame.{Frame}
 use Rattle.walk.specs.declared.Answer.{Answer}
 use Rattle.walk.specs.Step.{Input}
 use Rattle.scheduler.specs.Taken.{taken, mask-ok}
@@ -36,7 +39,10 @@ pub record Demand-1 : Type 0 where
   pub bytes-judged : (s : List ℕ) → Bytes s → (o : Told) → (reading s .told ≡ o) ↔ Judgment s o
   pub refused-table : (s : List ℕ) → 0 < reading s .told .number → reading s .table ≡ no-table
   -- Damaged tables handed in, stale states, short step lists: a step's number is given exactly when its row says.
-  pub step-numbered : (t : Table) (x : Input) (s : State) (n : ℕ) → (taken t x s .told .number ≡ n) ↔ Numbered t x s n
+  pub step-numbered : (t : Table) (mode : Mode) (x : Input) (s : State) (n : ℕ) → (taken t mode x s .told .number ≡ n) ↔ Numbered t mode x s n
+  -- Without a frame 19 is never given, and with one exactly where it does not pass.
+  pub unframed-passes : (t : Table) → mode-ok t unframed ≡ true
+  pub frames-exactly : (t : Table) (f : Frame) → (mode-ok t (framed f) ≡ true) ↔ Framed t f
   pub mask-exactly : (t : Table) (mask : ℕ) → mask < 2 ^ 32 → (mask-ok t mask ≡ true) ↔ Only-events t mask
   -- What the rows call legal and fitting is what document 01 calls so.
   pub legal-exactly : (t : Table) → Sized t → (legal t ≡ true) ↔ Legal t
@@ -58,10 +64,10 @@ pub record Demand-1 : Type 0 where
   pub host-mark-refused : (s : List ℕ) (i n : ℕ) → (thread-mark s i ≡ refusal n) ↔ Refuses s i n
   pub host-bound-refused : (s : List ℕ) → Bytes s → (i n : ℕ) → (thread-bound s i ≡ refusal n) ↔ Refuses s i n
   -- A refused step hands the state back as it came.
-  pub state-back : (t : Table) (x : Input) (s : State) → 0 < taken t x s .told .number → taken t x s .state ≡ s
+  pub state-back : (t : Table) (mode : Mode) (x : Input) (s : State) → 0 < taken t mode x s .told .number → taken t mode x s .state ≡ s
   -- A refused writer leaves the lent buffer as it was, and a refused domain is shown zeros.
   pub nothing-written : (b : List ℕ) (at : ℕ) (t : Table) → 0 < writing b at t .number → written b at t ≡ b
   pub zeros-shown : (t : Table) (s : State) (d : ℕ) → 0 < showing-state t s d .number → threads-shown t s d ≡ replicate 32 no-progress
   -- No thread's step byte brings a refusal about: with the same mask and as many bytes, whatever they are, the number is the same.
-  pub no-byte-refuses : (t : Table) (x y : Input) (s : State) → x .mask ≡ y .mask → length (x .bytes) ≡ length (y .bytes)
-      → taken t x s .told .number ≡ taken t y s .told .number
+  pub no-byte-refuses : (t : Table) (mode : Mode) (x y : Input) (s : State) → x .mask ≡ y .mask → length (x .bytes) ≡ length (y .bytes)
+      → taken t mode x s .told .number ≡ taken t mode y s .told .number

@@ -1,7 +1,7 @@
 -- Demand 2, whole: both round trips; and marks, the thread or idle chosen at each step, what every thread pays and the admission answers
 -- are those of document 01, from every fitting state. `run-steps` and `call-steps` join the calls to the step, whose definition fixes the
 -- whole state after it; the fields behind them say its rules in other words.
-use Prim.Native.Nat.{ℕ, _+_, _-_, _%_, _≤_, _<_}
+use Prim.Native.Nat.{ℕ, _+_, _-_, _*_, _%_, _≤_, _<_}
 use mathlib.Core.Path.{_≡_}
 use mathlib.Core.List.{List, [], _∷_, map}
 use mathlib.Core.Logic.{_≢_, _↔_}
@@ -13,6 +13,7 @@ use Rattle.basis.specs.Search.{found, nothing}
 use Rattle.basis.specs.Told.{answered}
 use Rattle.basis.specs.Ceil.{ceil}
 use Rattle.basis.specs.Spaced.{happened}
+use Rattle.flow.specs.Flow.{flows}
 use Rattle.table.specs.Threads.{thread}
 use Rattle.table.specs.Legal.{legal, Sized, Legal}
 use Rattle.table.specs.Mark.{Leaks, Protects, mark, marked, marks-of, marks-given, is-set}
@@ -28,6 +29,9 @@ use Rattle.state.specs.Release.{has-event, cut, by-clock, by-event, released, r
 use Rattle.state.specs.Methods.{finish, tick}
 use Rattle.state.specs.declared.Progress.{Progress}
 use Rattle.state.specs.declared.State.{State}
+use Rattle.frame.specs.Frame.{window, frame-ok, frame-length, window-at, domain-at, Falls}
+use Rattle.frame.specs.Mode.{Mode, unframed, framed, mode-ok, walks}
+use Rattle.frame.specs.declared.Frame.{Frame}
 use Rattle.walk.specs.Walk.{heard, runs, visit}
 use Rattle.walk.specs.Step.{Input, step, Rested, Names, Says, ran-by}
 use Rattle.walk.specs.Paid.{pays, payments, runs-of, Unreleased}
@@ -56,10 +60,10 @@ pub record Demand-2 : Type 0 where
   pub marked-exactly : (t : Table) (i : ℕ) → (marked t i ≡ true) ↔ Leaks t i
   pub set-exactly : (t : Table) (i : ℕ) → i < t .count → is-set (marks-of t) i ≡ marked t i
   -- From every fitting state a call that nothing refuses is the step, and so is each of a whole run of them.
-  pub call-steps : (t : Table) → legal t ≡ true → (x : Input) → length (x .bytes) ≡ t .count → mask-ok t (x .mask) ≡ true → (s : State) → Fits t s
-      → s .clock < last-clock → taken t x s ≡ took (step t x s)
-  pub run-steps : (t : Table) → legal t ≡ true → (a : List Input) → Whole-steps t a → (s : State) → Fits t s
-      → s .clock + length a ≤ last-clock → calls t a s ≡ map took (steps t a s)
+  pub call-steps : (t : Table) (mode : Mode) → legal t ≡ true → mode-ok t mode ≡ true → (x : Input) → length (x .bytes) ≡ t .count → mask-ok t (x .mask) ≡ true → (s : State) → Fits t s
+      → s .clock < last-clock → taken t mode x s ≡ took (step t mode x s)
+  pub run-steps : (t : Table) (mode : Mode) → legal t ≡ true → mode-ok t mode ≡ true → (a : List Input) → Whole-steps t a → (s : State) → Fits t s
+      → s .clock + length a ≤ last-clock → calls t mode a s ≡ map took (steps t mode a s)
   -- A run starts fresh: at clock 0, all zero and unmarked, an event thread with P steps since release.
   pub fresh-legal : (t : Table) → legal t ≡ true → fresh-given t ≡ fresh t
   pub fresh-clock : (t : Table) → fresh t .clock ≡ 0
@@ -93,66 +97,82 @@ pub record Demand-2 : Type 0 where
   pub two-finishes : (i : ℕ) (s : State) → heard 2 i s ≡ finish s i
   pub strange-waits : (m : List Mark) (b i : ℕ) (s : State) → b ≢ 1 → b ≢ 2 → visit m b i s ≡ visit m 0 i s
   -- The thread chosen had a rest, and it runs, or is marked and waits; above it no thread with a rest runs or is marked.
-  pub chosen-rested : (t : Table) (x : Input) (s : State) → Rested (step t x s .answer) (release t (x .mask) s)
-  pub chosen-says : (t : Table) (x : Input) (s : State) → Says (marks-of t) (x .bytes) (release t (x .mask) s) (step t x s .answer)
-  pub chosen-first : (t : Table) → Legal t → (x : Input) (s : State) (k i : ℕ) → Names k (step t x s .answer)
-      → thread t k .priority < thread t i .priority → i < t .count → 0 < progress (release t (x .mask) s) i .rest
+  pub chosen-rested : (t : Table) (mode : Mode) (x : Input) (s : State) → Rested (step t mode x s .answer) (release t (x .mask) s)
+  pub chosen-says : (t : Table) (mode : Mode) (x : Input) (s : State) → Says (marks-of t) (x .bytes) (release t (x .mask) s) (step t mode x s .answer)
+  pub chosen-first : (t : Table) (mode : Mode) → Legal t → (x : Input) (s : State) (k i : ℕ) → Names k (step t mode x s .answer)
+      → thread t k .priority < thread t i .priority → i < t .count → walks t mode (s .clock) i ≡ true → 0 < progress (release t (x .mask) s) i .rest
       → (marked t i ≡ false) × (runs (getD (x .bytes) i 0) (progress (release t (x .mask) s) i) ≡ false)
   -- The processor idles on nobody's account only where no thread with a rest runs or is marked.
-  pub idle-only : (t : Table) → Legal t → (x : Input) (s : State) → step t x s .answer ≡ Idle → (i : ℕ) → i < t .count
+  pub idle-only : (t : Table) (mode : Mode) → Legal t → (x : Input) (s : State) → step t mode x s .answer ≡ Idle → (i : ℕ) → i < t .count → walks t mode (s .clock) i ≡ true
       → 0 < progress (release t (x .mask) s) i .rest
       → (marked t i ≡ false) × (runs (getD (x .bytes) i 0) (progress (release t (x .mask) s) i) ≡ false)
   -- Every thread with a rest down to the chosen one, or all where nobody is chosen, pays one; those below it are as the release left them, one tick
   -- later.
-  pub reached-pay-one : (t : Table) → Legal t → (x : Input) (s : State) → Fits t s → (i : ℕ) → i < t .count
+  pub reached-pay-one : (t : Table) (mode : Mode) → Legal t → (x : Input) (s : State) → Fits t s → (i : ℕ) → i < t .count → walks t mode (s .clock) i ≡ true
       → 0 < progress (release t (x .mask) s) i .rest
-      → ((k : ℕ) → Names k (step t x s .answer) → thread t k .priority ≤ thread t i .priority) → pays t x s i ≡ 1
-  pub below-chosen : (t : Table) (x : Input) (s : State) (i k : ℕ) → Names i (step t x s .answer)
-      → thread t k .priority < thread t i .priority → progress (step t x s .state) k ≡ progress (tick t (release t (x .mask) s)) k
+      → ((k : ℕ) → Names k (step t mode x s .answer) → thread t k .priority ≤ thread t i .priority) → pays t mode x s i ≡ 1
+  pub below-chosen : (t : Table) (mode : Mode) (x : Input) (s : State) (i k : ℕ) → Names i (step t mode x s .answer)
+      → thread t k .priority < thread t i .priority → progress (step t mode x s .state) k ≡ progress (tick t (release t (x .mask) s)) k
+  -- Threads that the mode does not have at that clock are not chosen, pay nothing and are not heard. Without a frame it has all; in a window of
+  -- domain d those of every domain that d may flow to.
+  pub chosen-walks : (t : Table) (mode : Mode) (x : Input) (s : State) (i : ℕ) → Names i (step t mode x s .answer) → walks t mode (s .clock) i ≡ true
+  pub outside-stays : (t : Table) (mode : Mode) (x : Input) (s : State) (i : ℕ) → walks t mode (s .clock) i ≡ false
+      → progress (step t mode x s .state) i ≡ progress (tick t (release t (x .mask) s)) i
+  pub outside-unheard : (t : Table) (mode : Mode) (mask : ℕ) (bs cs : List ℕ) (s : State) → length bs ≡ length cs
+      → ((i : ℕ) → walks t mode (s .clock) i ≡ true → getD bs i 0 ≡ getD cs i 0)
+      → taken t mode (record { mask = mask; bytes = bs }) s ≡ taken t mode (record { mask = mask; bytes = cs }) s
+  pub unframed-walks : (t : Table) (c i : ℕ) → walks t unframed c i ≡ true
+  pub framed-walks : (t : Table) (f : Frame) (c i : ℕ) → walks t (framed f) c i ≡ flows (t .rows) (domain-at f c) (thread t i .domain)
+  -- The window that a clock falls in, of a frame that repeats from clock 0.
+  pub window-falls : (t : Table) (f : Frame) → frame-ok t f ≡ true → (c : ℕ) → Falls f c (window-at f c)
+  pub window-once : (f : Frame) (c j k : ℕ) → Falls f c j → Falls f c k → j ≡ k
+  pub window-first : (t : Table) (f : Frame) → frame-ok t f ≡ true → window-at f 0 ≡ 0
+  pub window-repeats : (f : Frame) (c n : ℕ) → window-at f (c + n * frame-length f) ≡ window-at f c
+  pub window-domain : (f : Frame) (c : ℕ) → domain-at f c ≡ window f (window-at f c) .domain
   -- Of each of those that pay, the finish mark is set then if it was before or the byte is 2.
-  pub reached-marks : (t : Table) → Legal t → (x : Input) (s : State) → Fits t s → (i : ℕ) → i < t .count
+  pub reached-marks : (t : Table) (mode : Mode) → Legal t → (x : Input) (s : State) → Fits t s → (i : ℕ) → i < t .count → walks t mode (s .clock) i ≡ true
       → 0 < progress (release t (x .mask) s) i .rest
-      → ((k : ℕ) → Names k (step t x s .answer) → thread t k .priority ≤ thread t i .priority)
-      → progress (step t x s .state) i .finished ≡ or (progress (release t (x .mask) s) i .finished) (eqb (getD (x .bytes) i 0) 2)
+      → ((k : ℕ) → Names k (step t mode x s .answer) → thread t k .priority ≤ thread t i .priority)
+      → progress (step t mode x s .state) i .finished ≡ or (progress (release t (x .mask) s) i .finished) (eqb (getD (x .bytes) i 0) 2)
   -- So a thread pays one at most in a step, and between two releases W at most.
-  pub pays-once : (t : Table) (x : Input) (s : State) (i : ℕ) → pays t x s i ≤ 1
-  pub payments-most : (t : Table) (i : ℕ) (x : Input) (more : List Input) (s : State) → i < t .count → Fits t s
-      → Unreleased t i more (step t x s .state) → payments t i (x ∷ more) s ≤ thread t i .budget
+  pub pays-once : (t : Table) (mode : Mode) (x : Input) (s : State) (i : ℕ) → pays t mode x s i ≤ 1
+  pub payments-most : (t : Table) (mode : Mode) (i : ℕ) (x : Input) (more : List Input) (s : State) → i < t .count → Fits t s
+      → Unreleased t mode i more (step t mode x s .state) → payments t mode i (x ∷ more) s ≤ thread t i .budget
   -- It runs W - B at most between two releases, whatever it sends, and never with no execution left.
-  pub runs-most : (t : Table) (i : ℕ) (x : Input) (more : List Input) (s : State) → t .count ≤ 32 → i < t .count → Fits t s
-      → Unreleased t i more (step t x s .state) → runs-of t i (x ∷ more) s ≤ thread t i .budget - thread t i .blocking
-  pub runs-rested : (t : Table) (x : Input) (s : State) (i : ℕ) → step t x s .answer ≡ Ran i
+  pub runs-most : (t : Table) (mode : Mode) (i : ℕ) (x : Input) (more : List Input) (s : State) → t .count ≤ 32 → i < t .count → Fits t s
+      → Unreleased t mode i more (step t mode x s .state) → runs-of t mode i (x ∷ more) s ≤ thread t i .budget - thread t i .blocking
+  pub runs-rested : (t : Table) (mode : Mode) (x : Input) (s : State) (i : ℕ) → step t mode x s .answer ≡ Ran i
       → 0 < progress (release t (x .mask) s) i .execution
   -- A thread with no rest is passed and stays as the release left it, one tick later; a count goes up by one exactly if its thread ran, and then its rest of execution
   -- goes down by one.
-  pub rest-stays : (t : Table) (x : Input) (s : State) (i : ℕ) → progress (release t (x .mask) s) i .rest ≡ 0
-      → progress (step t x s .state) i ≡ progress (tick t (release t (x .mask) s)) i
-  pub step-counts : (t : Table) (x : Input) (s : State) → t .count ≤ 32 → Fits t s → (i : ℕ) → i < t .count
-      → progress (step t x s .state) i .ran ≡ progress (release t (x .mask) s) i .ran + ran-by i (step t x s .answer)
-  pub step-runs : (t : Table) (x : Input) (s : State) (i : ℕ) → i < length (s .threads)
-      → progress (step t x s .state) i .execution + ran-by i (step t x s .answer) ≡ progress (release t (x .mask) s) i .execution
+  pub rest-stays : (t : Table) (mode : Mode) (x : Input) (s : State) (i : ℕ) → progress (release t (x .mask) s) i .rest ≡ 0
+      → progress (step t mode x s .state) i ≡ progress (tick t (release t (x .mask) s)) i
+  pub step-counts : (t : Table) (mode : Mode) (x : Input) (s : State) → t .count ≤ 32 → Fits t s → (i : ℕ) → i < t .count
+      → progress (step t mode x s .state) i .ran ≡ progress (release t (x .mask) s) i .ran + ran-by i (step t mode x s .answer)
+  pub step-runs : (t : Table) (mode : Mode) (x : Input) (s : State) (i : ℕ) → i < length (s .threads)
+      → progress (step t mode x s .state) i .execution + ran-by i (step t mode x s .answer) ≡ progress (release t (x .mask) s) i .execution
   -- A step is a release of a periodic thread exactly if the clock is at least O and the phase is 0, of an event thread exactly if its event
   -- comes P or more steps after its last release.
   pub releases-exactly : (t : Table) (i mask : ℕ) (s : State) → (releases t i mask s ≡ true) ↔ Release-due t i mask s
   -- So two releases of a thread are at least P steps apart, and in any L steps in a row it is released ceil(L / P) times at most.
-  pub releases-apart : (t : Table) → legal t ≡ true → Sized t → (i : ℕ) → i < t .count → (a : List Input) (s : State) → Fits t s → (j k : ℕ) → j < k
-      → getD (releases-in t i a s) j false ≡ true → getD (releases-in t i a s) k false ≡ true → j + thread t i .period ≤ k
-  pub releases-most : (t : Table) → legal t ≡ true → Sized t → (i : ℕ) → i < t .count → (a : List Input) (s : State) → Fits t s → (from many : ℕ)
-      → happened (take many (drop from (releases-in t i a s))) ≤ ceil many (thread t i .period)
+  pub releases-apart : (t : Table) (mode : Mode) → legal t ≡ true → Sized t → (i : ℕ) → i < t .count → (a : List Input) (s : State) → Fits t s → (j k : ℕ) → j < k
+      → getD (releases-in t mode i a s) j false ≡ true → getD (releases-in t mode i a s) k false ≡ true → j + thread t i .period ≤ k
+  pub releases-most : (t : Table) (mode : Mode) → legal t ≡ true → Sized t → (i : ℕ) → i < t .count → (a : List Input) (s : State) → Fits t s → (from many : ℕ)
+      → happened (take many (drop from (releases-in t mode i a s))) ≤ ceil many (thread t i .period)
   -- The steps since an event thread's release go up by one with the clock, P at most; a periodic thread's stay. Nothing else ages.
-  pub since-grows : (t : Table) (x : Input) (s : State) (i : ℕ) → i < t .count → i < length (s .threads) → thread t i .kind ≡ 1
+  pub since-grows : (t : Table) (mode : Mode) (x : Input) (s : State) (i : ℕ) → i < t .count → i < length (s .threads) → thread t i .kind ≡ 1
       → progress (release t (x .mask) s) i .since < thread t i .period
-      → progress (step t x s .state) i .since ≡ progress (release t (x .mask) s) i .since + 1
-  pub since-stops : (t : Table) (x : Input) (s : State) (i : ℕ) → i < t .count → i < length (s .threads) → thread t i .kind ≡ 1
+      → progress (step t mode x s .state) i .since ≡ progress (release t (x .mask) s) i .since + 1
+  pub since-stops : (t : Table) (mode : Mode) (x : Input) (s : State) (i : ℕ) → i < t .count → i < length (s .threads) → thread t i .kind ≡ 1
       → thread t i .period ≤ progress (release t (x .mask) s) i .since
-      → progress (step t x s .state) i .since ≡ progress (release t (x .mask) s) i .since
-  pub since-periodic : (t : Table) (x : Input) (s : State) (i : ℕ) → i < t .count → i < length (s .threads) → thread t i .kind ≢ 1
-      → progress (step t x s .state) i .since ≡ progress (release t (x .mask) s) i .since
+      → progress (step t mode x s .state) i .since ≡ progress (release t (x .mask) s) i .since
+  pub since-periodic : (t : Table) (mode : Mode) (x : Input) (s : State) (i : ℕ) → i < t .count → i < length (s .threads) → thread t i .kind ≢ 1
+      → progress (step t mode x s .state) i .since ≡ progress (release t (x .mask) s) i .since
   pub tick-leaves : (t : Table) (s : State) (i : ℕ)
       → (progress (tick t s) i .rest ≡ progress s i .rest) × (progress (tick t s) i .execution ≡ progress s i .execution)
       × (progress (tick t s) i .finished ≡ progress s i .finished) × (progress (tick t s) i .ran ≡ progress s i .ran)
   -- The clock goes up by one.
-  pub step-clock : (t : Table) (x : Input) (s : State) → step t x s .state .clock ≡ s .clock + 1
+  pub step-clock : (t : Table) (mode : Mode) (x : Input) (s : State) → step t mode x s .state .clock ≡ s .clock + 1
   -- The demand is W and the sum of what each thread brings; a bound is the smallest length from W to D whose demand is at most that
   -- length, and there is none exactly where no length is so.
   pub demands : (t : Table) (i x n : ℕ) → (demand t i x ≡ thread t i .budget + n) ↔ Sum-of (Demands t i x) (t .count) n

@@ -13,6 +13,7 @@ use Rattle.table.specs.Legal.{Legal}
 use Rattle.table.specs.declared.Table.{Table}
 use Rattle.state.specs.State.{no-progress, with-since, progress, fresh}
 use Rattle.state.specs.declared.State.{State}
+use Rattle.frame.specs.Mode.{Mode}
 use Rattle.walk.specs.Step.{Input}
 use Rattle.walk.specs.declared.Answer.{Answer}
 use Rattle.scheduler.specs.Taken.{Taken, told}
@@ -23,10 +24,10 @@ use Rattle.isolation.specs.Isolated.{telling, Isolated}
 
 pub record Demand-3 : Type 0 where
   -- At every step d is shown the same thread or the same gap, and each thread that it may see has the same rests, finish mark and count.
-  pub isolated : (t : Table) → Legal t → Isolated t
+  pub isolated : (t : Table) (mode : Mode) → Legal t → Isolated t mode
   -- At no step is it refused what it is shown of the state, so what it is shown is never blank for that.
-  pub shown-throughout : (t : Table) → Legal t → (d : ℕ) → d < t .domains → (a : List Input)
-      → map (λ (r : Taken). showing-state t (r .state) d) (calls t a (fresh t)) ≡ map (λ (x : Input). answered []) a
+  pub shown-throughout : (t : Table) (mode : Mode) → Legal t → (d : ℕ) → d < t .domains → (a : List Input)
+      → map (λ (r : Taken). showing-state t (r .state) d) (calls t mode a (fresh t)) ≡ map (λ (x : Input). answered []) a
   -- What it is told of a call is what the operation `shown` tells of its answer, or the number of the refusal.
   pub told-answers : (t : Table) (d : ℕ) (a : Answer) → telling t d (told (Chose a)) ≡ showing t d a
   pub told-refusals : (t : Table) (d why : ℕ) → why ≢ 0 → telling t d (told (Refused why)) ≡ refused why

@@ -1,9 +1,10 @@
-// Plays random tables and states, legal and damaged, with both schedulers, the proved one and crate rival. Prints how many of
+// Plays random tables, states and frames, legal and damaged, with both schedulers, the proved one and crate rival. Prints how many of
 // each kind were played, and last how often the two disagreed.
 mod report;
 
 use dice::part;
 use dice::seldom;
+use scheduler::Frame;
 use scheduler::State;
 use table::Table;
 use tally::Tally;
@@ -18,28 +19,53 @@ fn events(tally: &mut Tally, t: Table, s: State, mask: u32) {
     }
 }
 
-// A run of some steps.
-fn run(tally: &mut Tally, seed: u64, t: Table, from: State, steps: u32) {
+// One step of a run; the state after it.
+fn turn(tally: &mut Tally, t: Table, s: State, mask: u32, bytes: &[u8]) -> State {
+    let r = bout::step(t, s, mask, bytes, t.count);
+    count(tally, r.kind);
+    if r.kind <= bout::IDLE {
+        events(tally, t, s, mask);
+    }
+    r.state
+}
+
+// The same in a frame.
+fn turn_in_frame(
+    tally: &mut Tally,
+    t: Table,
+    f: Frame,
+    s: State,
+    mask: u32,
+    bytes: &[u8],
+) -> State {
+    let r = bout::step_in_frame(t, f, s, mask, bytes, t.count);
+    count(tally, r.kind);
+    r.state
+}
+
+// A run of some steps, and one in a frame with the same events and bytes.
+fn run(tally: &mut Tally, seed: u64, t: Table, f: Frame, from: State, steps: u32) {
     let mut s = from;
+    let mut framed = from;
     for k in 0..steps {
         let own = part(seed, k);
         let bytes = deal::bytes(own);
         let mask = deal::mask(own, t);
-        let r = bout::step(t, s, mask, &bytes, t.count);
-        count(tally, r.kind);
-        if r.kind <= bout::IDLE {
-            events(tally, t, s, mask);
-        }
-        s = r.state;
+        s = turn(tally, t, s, mask, &bytes);
+        framed = turn_in_frame(tally, t, f, framed, mask, &bytes);
     }
 }
 
-// One step of a table and a state that may both be damaged, with the right number of bytes or a wrong one; what a domain is shown of
-// it; and the table's fresh state.
+// One step of a table and a state that may both be damaged, with the right number of bytes or a wrong one, and one in a frame that may
+// be damaged too; what a domain is shown of it; and the table's fresh state.
 fn try_out(tally: &mut Tally, seed: u64, t: Table, s: State) {
     let bytes = deal::bytes(seed);
+    let mask = deal::mask(seed, t);
     let n = bout::some_length(seed, t.count);
-    let r = bout::step(t, s, deal::mask(seed, t), &bytes, n);
+    let f = deal::any_frame(part(seed, 3), t);
+    let q = bout::step_in_frame(t, f, s, mask, &bytes, n);
+    count(tally, q.kind);
+    let r = bout::step(t, s, mask, &bytes, n);
     count(tally, r.kind);
     count(tally, bout::fresh(t));
     count(tally, bout::marks(t));
@@ -74,12 +100,14 @@ fn damaged_states(tally: &mut Tally, seed: u64, t: Table) {
 fn play_table(tally: &mut Tally, seed: u64) {
     let t = deal::table(seed);
     let start = scheduler::fresh(t);
+    let f = deal::frame(part(seed, 12), t);
     count(tally, report::TABLES);
-    run(tally, part(seed, 1), t, start.state, 30);
-    for k in 2..9u32 {
+    run(tally, part(seed, 1), t, f, start.state, 18);
+    for k in 2..6u32 {
         let own = part(seed, k);
-        run(tally, own, t, deal::state(own, t), 2);
-        try_out(tally, part(own, 1), t, deal::state(own, t));
+        let s = deal::state(own, t);
+        run(tally, own, t, deal::frame(part(own, 2), t), s, 1);
+        try_out(tally, part(own, 1), t, s);
     }
     damaged_tables(tally, part(seed, 10), t);
     damaged_states(tally, part(seed, 11), t);

@@ -10,16 +10,36 @@ pub const DAMAGED_TABLE: u32 = 20;
 
 pub const DAMAGED_STATE: u32 = 30;
 
+fn in_frame(tally: &Tally) {
+    line(
+        tally,
+        bout::RAN + bout::IN_FRAME,
+        b" steps in a frame of a thread\n",
+    );
+    line(
+        tally,
+        bout::IDLE_FOR + bout::IN_FRAME,
+        b" steps in a frame idle for a thread\n",
+    );
+    line(
+        tally,
+        bout::IDLE + bout::IN_FRAME,
+        b" steps in a frame idle\n",
+    );
+}
+
 fn steps(tally: &Tally) {
     line(tally, TABLES, b" legal tables\n");
     line(tally, bout::RAN, b" steps of a thread\n");
     line(tally, bout::IDLE_FOR, b" steps idle for a thread\n");
     line(tally, bout::IDLE, b" steps idle\n");
+    in_frame(tally);
     line(tally, bout::REFUSED + 11, b" steps refused with 11\n");
     line(tally, bout::REFUSED + 12, b" steps refused with 12\n");
     line(tally, bout::REFUSED + 13, b" steps refused with 13\n");
     line(tally, bout::REFUSED + 14, b" steps refused with 14\n");
     line(tally, bout::REFUSED + 18, b" steps refused with 18\n");
+    line(tally, bout::REFUSED + 19, b" steps refused with 19\n");
     line(tally, bout::RELEASED, b" events that released a thread\n");
     line(tally, bout::LOST, b" events that came too early\n");
 }

@@ -22,10 +22,12 @@ use Rattle.state.specs.State.{fresh, last-clock, Fits}
 use Rattle.state.specs.Release.{release}
 use Rattle.state.specs.declared.State.{State}
 use Rattle.state.proofs.FitLaws.{fresh-fits, fits-complete}
-use Rattle.order.specs.Order.{order, Below, Falling}
-use Rattle.order.proofs.OrderLaws.{order-falls, order-below}
+use Rattle.order.specs.Order.{Below, Falling}
+use Rattle.frame.specs.Mode.{Mode, mode-ok, threads-at}
+use Rattle.frame.proofs.ModeLaws.{at-falls, at-below}
 use Rattle.walk.specs.Step.{Input, ticked, advance, step}
 use Rattle.walk.specs.declared.Answer.{Answer}
+use Rattle.walk.proofs.StepLaws.{step-by}
 use Rattle.scheduler.specs.Taken.{Taken, values, answer-of, told, took, refused-step, mask-ok, taken}
 use Rattle.scheduler.specs.Calls.{calls}
 use Rattle.scheduler.specs.declared.Outcome.the-variants.{Chose, Refused}
@@ -57,11 +59,15 @@ module _ (t : Table) (l : Legal t) (d : ℕ) (dd : d < t .domains) where
       let w = lockstep t d l dd m marks (x .bytes) (y .bytes) (h .same) is f c _ _ e in
       record { same = w .same; alike = alike-tick t d _ _ (w .alike) }
 
-  pub step-alike : (x y : Input) → Same-step t d x y → (s r : State) → Alike t d s r → Agree t d (step t x s) (step t y r)
-  unfolding step
-  step-alike x y h s r a = advance-alike (marks-of t) (set-exactly t) (order t) (order-falls t) (order-below t) x y h s r a
+  -- The step of either mode: both runs are at the same clock, so the walks go over the same threads.
+  pub step-alike : (mode : Mode) (x y : Input) → Same-step t d x y → (s r : State) → Alike t d s r → Agree t d (step t mode x s) (step t mode y r)
+  step-alike mode x y h s r a =
+      let is : List ℕ = threads-at t mode (s .clock) in
+      rw (step-by t mode x s, step-by t mode y r)
+      (subst (λ (c : ℕ). Agree t d (advance t (marks-of t) is x s) (advance t (marks-of t) (threads-at t mode c) y r)) (a .clocks)
+      (advance-alike (marks-of t) (set-exactly t) is (at-falls t mode (s .clock)) (at-below t mode (s .clock)) x y h s r a))
 
-module _ (t : Table) (ok : legal t ≡ true) where
+module _ (t : Table) (mode : Mode) (ok : legal t ≡ true) where
   module _ (d : ℕ) (dd : d < t .domains) where
     -- What d is shown of a fitting state is no refusal.
     state-shown : (s : State) → Fits t s → (showing-state t s d ≡ answered []) × (threads-shown t s d ≡ seen-threads t d s)
@@ -69,10 +75,10 @@ module _ (t : Table) (ok : legal t ≡ true) where
     state-shown s f = (rw (ok, fits-complete t s f, lt-ltb _ _ dd), rw (ok, fits-complete t s f, lt-ltb _ _ dd))
 
     always-shown : (a : List Input) (s : State) → Fits t s
-        → map (λ (r : Taken). showing-state t (r .state) d) (calls t a s) ≡ map (λ (x : Input). answered []) a
+        → map (λ (r : Taken). showing-state t (r .state) d) (calls t mode a s) ≡ map (λ (x : Input). answered []) a
     unfolding calls in-turn
     always-shown [] s f = refl
-    always-shown (x ∷ a) s f = ap₂ _∷_ (state-shown _ (call-fits t ok x s f) .0) (always-shown a _ (call-fits t ok x s f))
+    always-shown (x ∷ a) s f = ap₂ _∷_ (state-shown _ (call-fits t mode ok x s f) .0) (always-shown a _ (call-fits t mode ok x s f))
 
   module _ (l : Legal t) (d : ℕ) (dd : d < t .domains) where
     -- Two calls tell d the same and give states that are alike for d.
@@ -85,13 +91,15 @@ module _ (t : Table) (ok : legal t ≡ true) where
     telling-same a b e = telling-chosen t d a ∙ rw e (sym (telling-chosen t d b))
 
     same-call : (x y : Input) → Same-step t d x y → (s r : State) → Fits t s → Fits t r → Alike t d s r
-        → Same-calls (taken t x s) (taken t y r)
+        → Same-calls (taken t mode x s) (taken t mode y r)
     same-call x y h s r f g a =
-        rw (call-by t ok x s f, call-by t ok y r g)
-        (both Same-calls (eqb (length (x .bytes)) (t .count)) _ (ap (λ n. eqb n (t .count)) (h .long))
+        rw (call-by t mode ok x s f, call-by t mode ok y r g)
+        (both Same-calls (mode-ok t mode) _ refl
+        (λ _. both Same-calls (eqb (length (x .bytes)) (t .count)) _ (ap (λ n. eqb n (t .count)) (h .long))
         (λ _. both Same-calls (mask-ok t (x .mask)) _ (ap (mask-ok t) (h .masks))
         (λ _. both Same-calls (ltb (s .clock) last-clock) _ (ap (λ c. ltb c last-clock) (a .clocks))
-        (λ _. let o = step-alike t l d dd x y h s r a in record { told = telling-same _ _ (o .same); alike = o .alike })
+        (λ _. let o = step-alike t l d dd mode x y h s r a in record { told = telling-same _ _ (o .same); alike = o .alike })
+        (λ _. record { told = refl; alike = a }))
         (λ _. record { told = refl; alike = a }))
         (λ _. record { told = refl; alike = a }))
         (λ _. record { told = refl; alike = a }))
@@ -104,22 +112,22 @@ module _ (t : Table) (ok : legal t ≡ true) where
         rw (c .told, p .0, p .1, q .0, q .1, seen-same t d (v .state) (w .state) (λ i e. c .alike .common i .seen e))
 
     same-run : (us vs : List Input) → Same-steps t d us vs → (s r : State) → Fits t s → Fits t r → Alike t d s r
-        → map (shown-of t d) (calls t us s) ≡ map (shown-of t d) (calls t vs r)
+        → map (shown-of t d) (calls t mode us s) ≡ map (shown-of t d) (calls t mode vs r)
     unfolding calls in-turn
     same-run us vs ended s r f g a = refl
     same-run us vs (next {x} {y} {us = xs} {vs = ys} h more) s r f g a =
         let c = same-call x y h s r f g a in
-        let f′ = call-fits t ok x s f in
-        let g′ = call-fits t ok y r g in
+        let f′ = call-fits t mode ok x s f in
+        let g′ = call-fits t mode ok y r g in
         ap₂ _∷_ (same-shown _ _ f′ g′ c) (same-run xs ys more _ _ f′ g′ (c .alike))
 
-pub demand-3 : (t : Table) → legal t ≡ true → Sized t → Isolated t
-demand-3 t ok z d dd a b e =
+pub demand-3 : (t : Table) (mode : Mode) → legal t ≡ true → Sized t → Isolated t mode
+demand-3 t mode ok z d dd a b e =
     let l : Legal t = legal-sound t z ok in
     let f : Fits t (fresh t) = fresh-fits t (l .count-high) in
-    same-run t ok l d dd a b e (fresh t) (fresh t) f f (alike-refl t d (fresh t))
+    same-run t mode ok l d dd a b e (fresh t) (fresh t) f f (alike-refl t d (fresh t))
 
 -- At no step of a run is d refused what it is shown of the state: the threads that demand 3 speaks of are never blank for that.
-pub state-always-shown : (t : Table) → legal t ≡ true → (d : ℕ) → d < t .domains → (a : List Input)
-    → map (λ (r : Taken). showing-state t (r .state) d) (calls t a (fresh t)) ≡ map (λ (x : Input). answered []) a
-state-always-shown t ok d dd a = always-shown t ok d dd a (fresh t) (fresh-fits t (legal-small t ok .1))
+pub state-always-shown : (t : Table) (mode : Mode) → legal t ≡ true → (d : ℕ) → d < t .domains → (a : List Input)
+    → map (λ (r : Taken). showing-state t (r .state) d) (calls t mode a (fresh t)) ≡ map (λ (x : Input). answered []) a
+state-always-shown t mode ok d dd a = always-shown t mode ok d dd a (fresh t) (fresh-fits t (legal-small t ok .1))

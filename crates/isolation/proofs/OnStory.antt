@@ -9,6 +9,7 @@ use lib.Dec.{lit<}
 use Rattle.table.specs.Legal.{legal}
 use Rattle.example.specs.Story.{story, monitor-sends}
 use Rattle.state.specs.State.{fresh}
+use Rattle.frame.specs.Mode.{unframed}
 use Rattle.walk.specs.Step.{quiet}
 use Rattle.scheduler.specs.Calls.{quietly, calls}
 use Rattle.sight.specs.Shown.{visible}
@@ -38,6 +39,6 @@ same-steps (x ∷ xs) [] h = absurd (suc-ne-zero _ h)
 same-steps (x ∷ xs) (y ∷ ys) h = next (same-step x y) (same-steps xs ys (suc-inj h))
 
 pub whatever-the-monitor-sends : (xs ys : List ℕ) → length xs ≡ length ys
-    → map (shown-of story 0) (calls story (quietly (monitor-sends xs)) (fresh story)) ≡ map (shown-of story 0) (calls story (quietly (monitor-sends ys)) (fresh story))
+    → map (shown-of story 0) (calls story unframed (quietly (monitor-sends xs)) (fresh story)) ≡ map (shown-of story 0) (calls story unframed (quietly (monitor-sends ys)) (fresh story))
 whatever-the-monitor-sends xs ys h =
-    demand-3 story story-legal (record { rows = refl; threads = refl }) 0 (lit< tt) (quietly (monitor-sends xs)) (quietly (monitor-sends ys)) (same-steps xs ys h)
+    demand-3 story unframed story-legal (record { rows = refl; threads = refl }) 0 (lit< tt) (quietly (monitor-sends xs)) (quietly (monitor-sends ys)) (same-steps xs ys h)

@@ -11,6 +11,7 @@ use Rattle.basis.specs.Told.{Told}
 use Rattle.table.specs.declared.Table.{Table}
 use Rattle.state.specs.State.{fresh}
 use Rattle.state.specs.declared.Progress.{Progress}
+use Rattle.frame.specs.Mode.{Mode}
 use Rattle.walk.specs.Step.{Input}
 use Rattle.scheduler.specs.Taken.{Taken, answer-of}
 use Rattle.scheduler.specs.Calls.{calls}
@@ -45,7 +46,7 @@ pub data Same-steps (t : Table) (d : ℕ) : List Input → List Input → Type 0
   ended : Same-steps t d [] []
   next : {x y : Input} {us vs : List Input} → Same-step t d x y → Same-steps t d us vs → Same-steps t d (x ∷ us) (y ∷ vs)
 
--- From a fresh start each domain of the table is shown the same at every step.
-abbrev pub Isolated : Table → Type 0
-Isolated t = (d : ℕ) → d < t .domains → (a b : List Input) → Same-steps t d a b
-    → map (shown-of t d) (calls t a (fresh t)) ≡ map (shown-of t d) (calls t b (fresh t))
+-- From a fresh start each domain of the table is shown the same at every step, in whichever mode the steps are: the same frame in both runs.
+abbrev pub Isolated : Table → Mode → Type 0
+Isolated t mode = (d : ℕ) → d < t .domains → (a b : List Input) → Same-steps t d a b
+    → map (shown-of t d) (calls t mode a (fresh t)) ≡ map (shown-of t d) (calls t mode b (fresh t))

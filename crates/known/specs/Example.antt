@@ -1,11 +1,14 @@
--- Tables like example E, each with one thing changed, and how a table is written out as numbers.
-use Prim.Native.Nat.{ℕ}
+-- Tables like example E, each with one thing changed, frames, and how a table is written out as numbers.
+use Prim.Native.Nat.{ℕ, _-_}
 use mathlib.Core.List.{List, [], _∷_, _++_}
-use lib.ListN.{replicate}
+use lib.ListN.{length, replicate}
 use Rattle.table.specs.Threads.{none, fields}
 use Rattle.table.specs.declared.Table.{Table}
 use Rattle.table.specs.declared.Thread.{Thread}
 use Rattle.example.specs.Example.{table-of, task, event, in-version, upper, lower}
+use Rattle.frame.specs.Frame.{no-window}
+use Rattle.frame.specs.Mode.{Mode, framed}
+use Rattle.frame.specs.declared.Window.{Window}
 
 -- E's thread 0 with an offset of 3, and so with a deadline of 5 behind it.
 abbrev pub later : Thread
@@ -53,6 +56,17 @@ place-too-many th = record { version = 1; domains = 2; count = 2; rows = 3 ∷ 2
 -- E in version 2, with thread 1 released by events.
 abbrev pub eventful : Table
 eventful = in-version 2 (two 3 2 upper (event 0 20 10 3 10 0))
+
+-- A window of domain d, n steps long.
+abbrev pub window : ℕ → ℕ → Window
+window d n = record { domain = d; length = n }
+
+-- In a frame of n windows, which has these and zeros behind them; and of just these.
+abbrev pub in-counted : ℕ → List Window → Mode
+in-counted n ws = framed (record { count = n; windows = ws ++ replicate (64 - length ws) no-window })
+
+abbrev pub in-frame : List Window → Mode
+in-frame ws = in-counted (length ws) ws
 
 -- Every number that a table has room for: version, domains, threads, 16 rows, 32 times eight fields.
 abbrev pub all-fields : List Thread → List ℕ

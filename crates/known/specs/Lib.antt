@@ -5,5 +5,6 @@ pub mod Known
 pub mod KnownBytes
 pub mod KnownSteps
 pub mod KnownEvents
+pub mod KnownFrames
 pub mod KnownShown
 pub mod KnownBounds

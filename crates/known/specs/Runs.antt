@@ -10,8 +10,9 @@ use Rattle.example.specs.Example.{sent}
 use Rattle.state.specs.State.{no-progress, with-rest, with-execution, with-finished, with-count, with-since, starting, fresh-given}
 use Rattle.state.specs.declared.Progress.{Progress}
 use Rattle.state.specs.declared.State.{State}
-use Rattle.walk.specs.Step.{Input, quiet}
+use Rattle.walk.specs.Step.{Input}
 use Rattle.walk.specs.declared.Answer.{Answer}
+use Rattle.frame.specs.Mode.{Mode, unframed}
 use Rattle.scheduler.specs.Taken.{Taken, answer-of, taken}
 use Rattle.scheduler.specs.Calls.{quietly, calls}
 use Rattle.sight.specs.Shown.{showing, showing-state, threads-shown}
@@ -82,40 +83,53 @@ gives answer s = answer ++ state s
 abbrev of-taken : Taken → List ℕ
 of-taken r = gives (flat (r .told)) (r .state)
 
+-- What a domain is shown of an answer, and of a state.
+abbrev pub shown : Table → ℕ → Answer → List ℕ
+shown t d a = showing t d a .number ∷ or-256 (showing t d a .values)
+
+abbrev pub shown-state : Table → State → ℕ → List ℕ
+shown-state t s d = flat (showing-state t s d) ++ each (threads-shown t s d)
+
 -- Bytes, with a mask of events.
 abbrev pub with-mask : List ℕ → ℕ → Input
 with-mask bs mask = record { mask = mask; bytes = bs }
 
--- A call with a mask of events; without an event; and without one from a fresh start.
+-- A call in a mode, with a mask of events; without a frame; without an event either; and so from a fresh start.
+abbrev pub call-in : Table → Mode → State → ℕ → List ℕ → List ℕ
+call-in t mode s mask bs = of-taken (taken t mode (with-mask bs mask) s)
+
 abbrev pub call-with : Table → State → ℕ → List ℕ → List ℕ
-call-with t s mask bs = of-taken (taken t (with-mask bs mask) s)
+call-with t s mask bs = call-in t unframed s mask bs
 
 abbrev pub call : Table → State → List ℕ → List ℕ
-call t s bs = of-taken (taken t (quiet bs) s)
+call t s bs = call-with t s 0 bs
 
 abbrev pub first-call : Table → List ℕ → List ℕ
 first-call t bs = call t (fresh-given t) bs
 
--- The answers of a run of calls from a fresh start, and the state after them.
+-- The answers of a run of calls in a mode from a fresh start, the state after them, and what a domain is shown of each.
+abbrev pub answers-in : Table → Mode → List Input → List ℕ
+answers-in t mode xs = joined (map (λ (r : Taken). flat (r .told)) (calls t mode xs (fresh-given t)))
+
+abbrev pub state-in : Table → Mode → List Input → List ℕ
+state-in t mode xs = state (after (taken t mode) (λ (r : Taken). r .state) xs (fresh-given t))
+
+abbrev pub shown-in : Table → Mode → ℕ → List Input → List ℕ
+shown-in t mode d xs = joined (map (λ (r : Taken). shown t d (answer-of (r .told .values))) (calls t mode xs (fresh-given t)))
+
+-- The same without a frame.
 abbrev pub answers-of : Table → List Input → List ℕ
-answers-of t xs = joined (map (λ (r : Taken). flat (r .told)) (calls t xs (fresh-given t)))
+answers-of t xs = answers-in t unframed xs
 
 abbrev pub state-of : Table → List Input → List ℕ
-state-of t xs = state (after (taken t) (λ (r : Taken). r .state) xs (fresh-given t))
+state-of t xs = state-in t unframed xs
 
--- The same without an event, thread 0 sending these bytes and thread 1 always 1.
+-- And without an event, thread 0 sending these bytes and thread 1 always 1.
 abbrev pub answers : Table → List ℕ → List ℕ
 answers t bs = answers-of t (quietly (sent bs))
 
 abbrev pub state-after : Table → List ℕ → List ℕ
 state-after t bs = state-of t (quietly (sent bs))
 
--- What a domain is shown of an answer; of each call of such a run; and of a state.
-abbrev pub shown : Table → ℕ → Answer → List ℕ
-shown t d a = showing t d a .number ∷ or-256 (showing t d a .values)
-
 abbrev pub shown-to : Table → ℕ → List ℕ → List ℕ
-shown-to t d bs = joined (map (λ (r : Taken). shown t d (answer-of (r .told .values))) (calls t (quietly (sent bs)) (fresh-given t)))
-
-abbrev pub shown-state : Table → State → ℕ → List ℕ
-shown-state t s d = flat (showing-state t s d) ++ each (threads-shown t s d)
+shown-to t d bs = shown-in t unframed d (quietly (sent bs))

@@ -1,7 +1,7 @@
 -- Demand 3 for a class: one rule is changed, and a domain learns what it must not. In each lesson two runs differ in the bytes of
--- threads hidden from a domain only, and the claims compute what that domain is told of each step. In the last one no rule is
--- changed: whoever makes the masks tells what is hidden.
-use Prim.Native.Nat.{ℕ, zero, suc, _+_}
+-- threads hidden from a domain only, and the claims compute what that domain is told of each step. In one no rule is changed: whoever
+-- makes the masks tells what is hidden. The last one is about windows in a frame.
+use Prim.Native.Nat.{ℕ, zero, suc, _+_, _-_}
 use mathlib.Core.Path.{_≡_, refl}
 use mathlib.Core.List.{List, [], _∷_, _++_, map}
 use mathlib.Core.Bool.{Bool, true, false, not}
@@ -12,7 +12,7 @@ use Rattle.basis.specs.Search.{Sought, nothing, found, first, listed}
 use Rattle.basis.specs.Told.{Told, answered, refused}
 use Rattle.basis.specs.Turns.{in-turn}
 use Rattle.table.specs.Threads.{thread}
-use Rattle.table.specs.Mark.{seen-by, mark, marks-of, is-set}
+use Rattle.table.specs.Mark.{seen-by, hidden-below, protects, mark, marks-of, is-set}
 use Rattle.table.specs.declared.Mark.{Mark}
 use Rattle.table.specs.declared.Table.{Table}
 use Rattle.table.specs.declared.Thread.{Thread}
@@ -24,6 +24,8 @@ use Rattle.state.specs.declared.Progress.{Progress}
 use Rattle.state.specs.declared.State.{State}
 use Rattle.order.specs.Order.{down, order}
 use Rattle.walk.specs.Walk.{heard, runs, walked, decided, visit, chosen, walk}
+use Rattle.frame.specs.Frame.{no-window}
+use Rattle.frame.specs.Mode.{Mode, unframed, framed, threads-at, walks}
 use Rattle.walk.specs.Step.{Input, ticked, advance, step}
 use Rattle.walk.specs.declared.Answer.{Answer}
 use Rattle.walk.specs.declared.Answer.the-variants.{Ran, IdleFor, Idle}
@@ -34,9 +36,16 @@ use Rattle.scheduler.specs.Opened.{opened as steps-opened}
 use Rattle.sight.specs.Shown.{visible, view}
 use Rattle.sight.specs.Opened.{opened as sight-opened}
 
--- What a call of the step gives, by the right rules (`taken`) or by others.
+-- What a call of the step gives, by the right rules or by others.
 abbrev pub Call : Type 0
 Call = Table → Input → State → Taken
+
+-- By the right rules, in a mode and without a frame.
+abbrev pub right-in : Mode → Call
+right-in mode t x s = taken t mode x s
+
+abbrev pub right : Call
+right = right-in unframed
 
 -- What each call gives, in turn.
 abbrev pub run : (Input → State → Taken) → List Input → State → List Taken
@@ -74,8 +83,8 @@ unfolding walk-by walk
 walk-same m bs [] s = refl
 walk-same m bs (i ∷ is) s = rw (walk-same m bs is)
 
-pub visiting-same : (t : Table) (x : Input) (s : State) → visiting visit t x s ≡ step t x s
-unfolding visiting step advance
+pub visiting-same : (t : Table) (x : Input) (s : State) → visiting visit t x s ≡ step t unframed x s
+unfolding visiting step advance threads-at
 visiting-same t x s = rw (walk-same (marks-of t))
 
 -- A thread of a domain, with a priority, a period and a budget; its offset is 0 and its deadline the period.
@@ -123,7 +132,7 @@ seen-from-below f = record { changed = f; table = private-above; domain = 0; one
 -- its wait shows in when thread 1 runs, and domain 2 sees thread 1. Such a table is refused: here the rules trust it.
 abbrev pair-missing : Lesson
 pair-missing = record {
-  changed = call step;
+  changed = call (λ (t : Table). step t unframed);
   table = table-of (3 ∷ 6 ∷ 4 ∷ []) (plain 0 30 4 2 ∷ plain 1 20 4 1 ∷ []);
   domain = 2;
   one = running;
@@ -246,7 +255,7 @@ added-leaks = refl
 
 -- g. A strange byte is refused. A private thread then stops everyone (`same-refusal` says that no byte's value does).
 unfoldable pub refusing-strange : Call
-refusing-strange t x s = pick (some (t .count) (λ i. ltb 2 (getD (x .bytes) i 0))) (refused-step 13 s) (taken t x s)
+refusing-strange t x s = pick (some (t .count) (λ i. ltb 2 (getD (x .bytes) i 0))) (refused-step 13 s) (right t x s)
 
 abbrev strange-byte : Lesson
 strange-byte = record {
@@ -295,7 +304,7 @@ runaway-unpaid-leaks = refl
 abbrev pub leaks : List Lesson
 leaks = pair-missing ∷ next-only ∷ flow-reversed ∷ unpaid-wait ∷ nobody-pays ∷ handed-down ∷ added ∷ strange-byte ∷ runaway-handed-down ∷ runaway-unpaid ∷ []
 
-pub right-rules : map (told-by taken) leaks
+pub right-rules : map (told-by right) leaks
     ≡ map twice
     ((refused 11 ∷ refused 11 ∷ refused 11 ∷ [])
     ∷ (gap ∷ gap ∷ shown 2 ∷ [])
@@ -355,7 +364,7 @@ abbrev pub passes : List Lesson
 passes = heard-unreached ∷ free-wait ∷ []
 
 -- What demand 2 wants instead.
-pub right-answers : map (told-by taken) passes ≡ map twice ((gap ∷ gap ∷ shown 1 ∷ []) ∷ (gap ∷ shown 0 ∷ gap ∷ []) ∷ [])
+pub right-answers : map (told-by right) passes ≡ map twice ((gap ∷ gap ∷ shown 1 ∷ []) ∷ (gap ∷ shown 0 ∷ gap ∷ []) ∷ [])
 unfolding trace
 right-answers = refl
 
@@ -383,7 +392,7 @@ made-by e a = map (λ (bs : List ℕ). record { mask = e bs; bytes = bs }) a
 
 -- What domain 0 is told by the right rules where thread 0 runs, and where it waits.
 abbrev told-under : (List ℕ → ℕ) → List (List Told)
-told-under e = trace taken woken 0 (made-by e running) ∷ trace taken woken 0 (made-by e waiting) ∷ []
+told-under e = trace right woken 0 (made-by e running) ∷ trace right woken 0 (made-by e waiting) ∷ []
 
 -- An event for thread 1 where thread i sends 1, and none where it does not.
 abbrev where-runs : ℕ → List ℕ → ℕ
@@ -407,3 +416,49 @@ hidden-mask-leaks = refl
 pub public-mask-same : map told-under (whatever-comes ∷ where-runs 1 ∷ []) ≡ replicate 2 (twice (gap ∷ gap ∷ shown 1 ∷ []))
 unfolding trace
 public-mask-same = refl
+
+-- j. In a window of a frame the marks are taken over its threads only. Threads 0 and 1 are of domain 2, thread 2 of domain 1, and domain 0 may flow to
+-- all: one step of domain 2, in which threads 0 and 1 are walked, then nine of domain 0, in which all are.
+abbrev across : Table
+across = table-of (7 ∷ 2 ∷ 4 ∷ []) (plain 2 30 10 1 ∷ plain 2 20 10 1 ∷ plain 1 10 10 1 ∷ [])
+
+abbrev two-windows : Mode
+two-windows = framed (record { count = 2; windows = record { domain = 2; length = 1 } ∷ record { domain = 0; length = 9 } ∷ replicate 62 no-window })
+
+-- A thread is marked for another only if that one is walked at the clock c; and the step with such marks.
+unfoldable pub window-marks : Table → Mode → ℕ → List Mark
+window-marks t mode c =
+    listed (t .count) (λ i. mark (first (t .count) (λ j. pick (and (walks t mode c j) (hidden-below t i j)) (found j) nothing)))
+    ++ replicate (32 - t .count) (mark nothing)
+
+unfoldable pub marking-window : Mode → Table → Input → State → Walked
+marking-window mode t x s = advance t (window-marks t mode (s .clock)) (threads-at t mode (s .clock)) x s
+
+-- Without a frame it is the step: every thread is walked.
+pub marking-window-same : (t : Table) (x : Input) (s : State) → marking-window unframed t x s ≡ step t unframed x s
+unfolding marking-window window-marks step marks-of protects walks
+marking-window-same t x s = refl
+
+abbrev window-marks-only : Lesson
+window-marks-only = record {
+  changed = call (marking-window two-windows);
+  table = across;
+  domain = 1;
+  one = replicate 3 (1 ∷ 1 ∷ 1 ∷ []);
+  other = replicate 3 (0 ∷ 1 ∷ 1 ∷ []);
+}
+
+-- At clock 0 all that are walked may learn of thread 0's wait, so it is not marked there: thread 1 runs in its place, and thread 2 starts a step sooner.
+pub window-marks-leaks : told-by (window-marks-only .changed) window-marks-only ≡ (gap ∷ gap ∷ shown 2 ∷ []) ∷ (gap ∷ shown 2 ∷ gap ∷ []) ∷ []
+unfolding trace call marking-window window-marks
+window-marks-leaks = refl
+
+-- By the right rules in the same frame thread 0 is marked for thread 2 there, and domain 1 is told the same of both runs.
+pub window-right-rules : told-by (right-in two-windows) window-marks-only ≡ twice (gap ∷ gap ∷ shown 2 ∷ [])
+unfolding trace
+window-right-rules = refl
+
+-- They differ in thread 0's byte only, which domain 1 may not see.
+pub window-hidden-only : differ-hidden (window-marks-only .table) 1 (window-marks-only .one) (window-marks-only .other) ≡ true
+unfolding differ-hidden
+window-hidden-only = refl

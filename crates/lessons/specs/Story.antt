@@ -11,9 +11,9 @@ use Rattle.basis.specs.Search.{nothing, found}
 use Rattle.table.specs.Mark.{mark, marks-of}
 use Rattle.example.specs.Story.{story, monitor-sends}
 use Rattle.state.specs.State.{fresh}
-use Rattle.scheduler.specs.Taken.{Taken, values, taken}
+use Rattle.scheduler.specs.Taken.{Taken, values}
 use Rattle.scheduler.specs.Calls.{quietly}
-use Rattle.lessons.specs.Lessons.{Call, run, trace, call, marking, no-marks, gap, shown}
+use Rattle.lessons.specs.Lessons.{Call, right, run, trace, call, marking, no-marks, gap, shown}
 use Rattle.walk.specs.declared.Answer.{Answer}
 use Rattle.walk.specs.declared.Answer.the-variants.{Ran, IdleFor, Idle}
 
@@ -51,7 +51,7 @@ abbrev told : List Answer → List Told
 told = map (λ (a : Answer). answered (values a))
 
 -- Ours: the monitor waits out its budget of 4.
-pub ours : answers taken once ≡ told (Ran 2 ∷ IdleFor 2 ∷ IdleFor 2 ∷ IdleFor 2 ∷ Ran 0 ∷ Ran 0 ∷ Ran 0 ∷ Ran 1 ∷ Ran 1 ∷ Idle ∷ [])
+pub ours : answers right once ≡ told (Ran 2 ∷ IdleFor 2 ∷ IdleFor 2 ∷ IdleFor 2 ∷ Ran 0 ∷ Ran 0 ∷ Ran 0 ∷ Ran 1 ∷ Ran 1 ∷ Idle ∷ [])
 unfolding trace
 ours = refl
 
@@ -61,7 +61,7 @@ unfolding trace call marking no-marks
 handed-down = refl
 
 -- The pitch loop's domain is told the same whether the monitor runs, would run on or waits; so it is whatever the monitor sends (`isolation/proofs/OnStory.antt`).
-pub pitch-ours : map (pitch-told taken) (once ∷ always ∷ never ∷ []) ≡ replicate 3 (from-clock 4)
+pub pitch-ours : map (pitch-told right) (once ∷ always ∷ never ∷ []) ≡ replicate 3 (from-clock 4)
 unfolding trace
 pitch-ours = refl
 

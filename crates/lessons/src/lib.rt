@@ -1,1 +1,1 @@
-// No code: a computed pair of runs for each rule that demand 3 needs, one for the masks, and the story of the three parties.
+// No code: a computed pair of runs for each rule that demand 3 needs, one for the masks, one for windows, and the story of the three parties.

@@ -3,9 +3,11 @@ use actuator::Actuator;
 use example::example;
 use reader::Verdict;
 use scheduler::Answer;
+use scheduler::Frame;
 use scheduler::Outcome;
 use scheduler::Starting;
 use scheduler::State;
+use scheduler::Window;
 use sight::View;
 use table::Marking;
 use table::Table;
@@ -55,6 +57,15 @@ fn long_since(t: Table, i: usize, since: u16) -> State {
     p.since = since;
     s.threads[i % 32] = p;
     s
+}
+
+// A frame that says this count of windows, all of this domain and length.
+fn frame(count: u8, domain: u8, length: u16) -> Frame {
+    let w = Window { domain, length };
+    Frame {
+        count,
+        windows: [w; 64],
+    }
 }
 
 fn say(number: u8) {
@@ -153,6 +164,15 @@ fn steps(t: Table, s: State, mask: u32, bytes: &[u8], what: &[u8]) {
     let o = r.outcome;
     say(step_number(o));
     io::write_all(1, b": step, ");
+    io::write_all(1, what);
+}
+
+fn steps_in(f: Frame, what: &[u8]) {
+    let e = example();
+    let r = scheduler::step_in_frame(e, f, fresh(e), 0, b"\x01\x01");
+    let o = r.outcome;
+    say(step_number(o));
+    io::write_all(1, b": step_in_frame, ");
     io::write_all(1, what);
 }
 
@@ -265,6 +285,15 @@ fn main() {
         4,
         b"\x01\x01",
         b"version 2, thread 1 with events: one for thread 2, which is missing\n",
+    );
+    steps_in(frame(65, 0, 1), b"example E in a frame of 65 windows\n");
+    steps_in(
+        frame(1, 2, 1),
+        b"example E in a frame with a window of domain 2\n",
+    );
+    steps_in(
+        frame(1, 0, 60001),
+        b"example E in a frame with a window of 60,001 steps\n",
     );
     drives(
         actuator::start(0, 0, 0),

@@ -2,7 +2,7 @@
 use table::Table;
 
 // The set of thread i alone.
-fn only(i: u8) -> u32 {
+pub fn only(i: u8) -> u32 {
     1u32 << i % 32
 }
 

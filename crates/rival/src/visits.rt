@@ -1,4 +1,5 @@
 // The walk, by falling priority.
+use crate::events::has;
 use rival_table::NOBODY;
 use rival_table::leaks;
 use rival_table::order;
@@ -66,7 +67,8 @@ fn come(now: Turn, i: u8, bytes: &[u8], leaks: bool) -> Turn {
     reach(s, i, byte_of(bytes, i), leaks)
 }
 
-pub fn walk(t: Table, s: State, bytes: &[u8]) -> Turn {
+// The walk over a set of threads. The marks are those of the whole table.
+pub fn walk(t: Table, s: State, among: u32, bytes: &[u8]) -> Turn {
     let by_priority = order(t);
     let marks = leaks(t, by_priority);
     let mut now = Turn {
@@ -76,7 +78,9 @@ pub fn walk(t: Table, s: State, bytes: &[u8]) -> Turn {
     };
     for k in 0..32usize {
         let i = by_priority[k];
-        now = come(now, i, bytes, marks[i as usize % 32]);
+        if has(among, i) {
+            now = come(now, i, bytes, marks[i as usize % 32]);
+        }
     }
     now
 }

@@ -3,7 +3,7 @@
 use Prim.Native.Nat.{ℕ, _/_, _%_, _^_, _<_}
 use mathlib.Core.Path.{_≡_, refl, sym, _∙_, ap}
 use mathlib.Core.List.{List}
-use mathlib.Core.Bool.{true, not}
+use mathlib.Core.Bool.{true, not, true≢false}
 use mathlib.Core.Logic.{_≢_, _↔_}
 use native.Mathlib.Nat.{div-eq-of-lt, lt-of-lt-of-le}
 use native.Mathlib.Omega.{arith}
@@ -20,9 +20,10 @@ use Rattle.table.specs.declared.Table.{Table}
 use Rattle.state.specs.declared.State.{State}
 use Rattle.state.specs.State.{last-clock, fits}
 use Rattle.state.specs.Release.{has-event}
+use Rattle.frame.specs.Mode.{Mode, unframed, mode-ok}
 use Rattle.walk.specs.Step.{Input, step}
-use Rattle.scheduler.specs.Taken.{Taken, took, mask-ok, taken}
-use Rattle.scheduler.specs.Numbered.{Only-events, Numbered, not-legal, not-fitting, not-one-each, no-event, at-last, steps}
+use Rattle.scheduler.specs.Taken.{Taken, took, mask-ok, taken-then, taken}
+use Rattle.scheduler.specs.Numbered.{Only-events, Numbered, not-legal, bad-frame, not-fitting, not-one-each, no-event, at-last, steps}
 
 -- A mask of 32 bits has no event behind bit 31.
 events-low : (mask i : ℕ) → mask < 2 ^ 32 → has-event mask i ≡ true → i < 32
@@ -47,70 +48,84 @@ mask-exactly t mask m = (
 )
 
 -- A refused step hands back the state it was given.
-pub refused-keeps : (t : Table) (x : Input) (s : State) → 0 < taken t x s .told .number → taken t x s .state ≡ s
-unfolding taken
-refused-keeps t x s =
+pub refused-keeps : (t : Table) (mode : Mode) (x : Input) (s : State) → 0 < taken t mode x s .told .number → taken t mode x s .state ≡ s
+unfolding taken taken-then
+refused-keeps t mode x s =
     let P : Taken → Type 0 = λ r. 0 < r .told .number → r .state ≡ s in
     both-ways P _ _ _
     (both-ways P _ _ _
+    (both-ways P _ _ _
     (both-ways P _ _ _ (both-ways P _ _ _ (both-ways P _ _ _ (λ h. absurd (omega arith)) (λ h. refl)) (λ h. refl)) (λ h. refl))
+    (λ h. refl))
     (λ h. refl))
     (λ h. refl)
 
-module _ (t : Table) (x : Input) (s : State) where
+module _ (t : Table) (mode : Mode) (x : Input) (s : State) where
   -- where every test passes, a call is the step
-  pub taken-steps : legal t ≡ true → fits t s ≡ true → length (x .bytes) ≡ t .count → mask-ok t (x .mask) ≡ true → s .clock < last-clock
-      → taken t x s ≡ took (step t x s)
-  unfolding taken pick
-  taken-steps a b c m d = rw (a, b, eq-eqb _ _ c, m, lt-ltb _ _ d)
+  pub taken-steps : legal t ≡ true → mode-ok t mode ≡ true → fits t s ≡ true → length (x .bytes) ≡ t .count → mask-ok t (x .mask) ≡ true
+      → s .clock < last-clock → taken t mode x s ≡ took (step t mode x s)
+  unfolding taken taken-then pick
+  taken-steps a o b c m d = rw (a, o, b, eq-eqb _ _ c, m, lt-ltb _ _ d)
 
   -- a row that holds gives its number, and one of the rows holds
-  number-only : {n : ℕ} → Numbered t x s n → taken t x s .told .number ≡ n
-  unfolding taken pick
+  number-only : {n : ℕ} → Numbered t mode x s n → taken t mode x s .told .number ≡ n
+  unfolding taken taken-then pick
   number-only (not-legal a) = rw a
-  number-only (not-fitting a b) = rw (a, b)
-  number-only (not-one-each a b c) = rw (a, b, ne-eqb _ _ c)
-  number-only (no-event a b c m) = rw (a, b, eq-eqb _ _ c, m)
-  number-only (at-last a b c m d) = rw (a, b, eq-eqb _ _ c, m, le-ltb _ _ d)
-  number-only (steps a b c m d) = ap (λ (r : Taken). r .told .number) (taken-steps a b c m d)
+  number-only (bad-frame a o) = rw (a, o)
+  number-only (not-fitting a o b) = rw (a, o, b)
+  number-only (not-one-each a o b c) = rw (a, o, b, ne-eqb _ _ c)
+  number-only (no-event a o b c m) = rw (a, o, b, eq-eqb _ _ c, m)
+  number-only (at-last a o b c m d) = rw (a, o, b, eq-eqb _ _ c, m, le-ltb _ _ d)
+  number-only (steps a o b c m d) = ap (λ (r : Taken). r .told .number) (taken-steps a o b c m d)
 
-  here : {n : ℕ} → Numbered t x s n → Numbered t x s (taken t x s .told .number)
-  here r = row-here (Numbered t x s) r (number-only r)
+  here : {n : ℕ} → Numbered t mode x s n → Numbered t mode x s (taken t mode x s .told .number)
+  here r = row-here (Numbered t mode x s) r (number-only r)
 
-  number-given : Numbered t x s (taken t x s .told .number)
+  number-given : Numbered t mode x s (taken t mode x s .told .number)
   number-given =
       by-test (legal t)
-      (λ a. by-test (fits t s)
+      (λ a. by-test (mode-ok t mode)
+      (λ o. by-test (fits t s)
       (λ b. by-test (eqb (length (x .bytes)) (t .count))
       (λ c. by-test (mask-ok t (x .mask))
       (λ m. by-test (ltb (s .clock) last-clock)
-      (λ d. here (steps a b (eqb-true _ _ c) m (ltb-true _ _ d)))
-      (λ d. here (at-last a b (eqb-true _ _ c) m (ltb-false _ _ d))))
-      (λ m. here (no-event a b (eqb-true _ _ c) m)))
-      (λ c. here (not-one-each a b (eqb-false _ _ c))))
-      (λ b. here (not-fitting a b)))
+      (λ d. here (steps a o b (eqb-true _ _ c) m (ltb-true _ _ d)))
+      (λ d. here (at-last a o b (eqb-true _ _ c) m (ltb-false _ _ d))))
+      (λ m. here (no-event a o b (eqb-true _ _ c) m)))
+      (λ c. here (not-one-each a o b (eqb-false _ _ c))))
+      (λ b. here (not-fitting a o b)))
+      (λ o. here (bad-frame a o)))
       (λ a. here (not-legal a))
 
   -- each number, and 0, exactly when its row holds; a number without a row never
-  pub number-exactly : (n : ℕ) → (taken t x s .told .number ≡ n) ↔ Numbered t x s n
-  number-exactly = exactly-by (Numbered t x s) number-given (λ n r. number-only r)
+  pub number-exactly : (n : ℕ) → (taken t mode x s .told .number ≡ n) ↔ Numbered t mode x s n
+  number-exactly = exactly-by (Numbered t mode x s) number-given (λ n r. number-only r)
 
 -- No row has 17.
-pub never-17 : (t : Table) (x : Input) (s : State) → taken t x s .told .number ≢ 17
-never-17 t x s e = none (number-exactly t x s 17 .0 e)
+pub never-17 : (t : Table) (mode : Mode) (x : Input) (s : State) → taken t mode x s .told .number ≢ 17
+never-17 t mode x s e = none (number-exactly t mode x s 17 .0 e)
   where
-    none : Numbered t x s 17 → ⊥
+    none : Numbered t mode x s 17 → ⊥
     none r = elim r [ ]
 
 -- The number hangs on the mask and on how many bytes there are, and not on what they are.
-pub same-refusal : (t : Table) (x y : Input) (s : State) → x .mask ≡ y .mask → length (x .bytes) ≡ length (y .bytes)
-    → taken t x s .told .number ≡ taken t y s .told .number
-same-refusal t x y s e l = number-only t x s (moved (number-given t y s))
+pub same-refusal : (t : Table) (mode : Mode) (x y : Input) (s : State) → x .mask ≡ y .mask → length (x .bytes) ≡ length (y .bytes)
+    → taken t mode x s .told .number ≡ taken t mode y s .told .number
+same-refusal t mode x y s e l = number-only t mode x s (moved (number-given t mode y s))
   where
-    moved : {n : ℕ} → Numbered t y s n → Numbered t x s n
+    moved : {n : ℕ} → Numbered t mode y s n → Numbered t mode x s n
     moved (not-legal a) = not-legal a
-    moved (not-fitting a b) = not-fitting a b
-    moved (not-one-each a b c) = not-one-each a b (λ q. c (sym l ∙ q))
-    moved (no-event a b c m) = no-event a b (l ∙ c) (ap (mask-ok t) e ∙ m)
-    moved (at-last a b c m d) = at-last a b (l ∙ c) (ap (mask-ok t) e ∙ m) d
-    moved (steps a b c m d) = steps a b (l ∙ c) (ap (mask-ok t) e ∙ m) d
+    moved (bad-frame a o) = bad-frame a o
+    moved (not-fitting a o b) = not-fitting a o b
+    moved (not-one-each a o b c) = not-one-each a o b (λ q. c (sym l ∙ q))
+    moved (no-event a o b c m) = no-event a o b (l ∙ c) (ap (mask-ok t) e ∙ m)
+    moved (at-last a o b c m d) = at-last a o b (l ∙ c) (ap (mask-ok t) e ∙ m) d
+    moved (steps a o b c m d) = steps a o b (l ∙ c) (ap (mask-ok t) e ∙ m) d
+
+-- Without a frame 19 is never given.
+pub never-19 : (t : Table) (x : Input) (s : State) → taken t unframed x s .told .number ≢ 19
+unfolding mode-ok
+never-19 t x s e = none (number-exactly t unframed x s 19 .0 e)
+  where
+    none : Numbered t unframed x s 19 → ⊥
+    none (bad-frame a o) = true≢false o

@@ -7,6 +7,7 @@ use Rattle.basis.specs.Tests.{pick}
 use Rattle.basis.proofs.BackLaws.{undone}
 use Rattle.table.specs.declared.Table.{Table}
 use Rattle.state.specs.declared.State.{State}
+use Rattle.frame.specs.Mode.{Mode}
 use Rattle.walk.specs.Step.{Input}
 use Rattle.walk.specs.declared.Answer.{Answer}
 use Rattle.walk.specs.declared.Answer.the-variants.{Ran, IdleFor, Idle}
@@ -31,8 +32,8 @@ outcome-same (Refused n) = refl
 pub told-injective : (a b : Outcome) → told a ≡ told b → a ≡ b
 told-injective = undone told (λ t. outcome-back (t .number) (t .values)) outcome-same
 
-pub step-unique : (t : Table) (x : Input) (s : State) (r q : Stepped) → taken-of r ≡ taken t x s → taken-of q ≡ taken t x s → r ≡ q
-step-unique t x s r q e f =
+pub step-unique : (t : Table) (mode : Mode) (x : Input) (s : State) (r q : Stepped) → taken-of r ≡ taken t mode x s → taken-of q ≡ taken t mode x s → r ≡ q
+step-unique t mode x s r q e f =
     let g : taken-of r ≡ taken-of q = e ∙ sym f in
     let o : r .outcome ≡ q .outcome = told-injective _ _ (ap (λ (x : Taken). x .told) g) in
     let n : r .state ≡ q .state = ap (λ (x : Taken). x .state) g in

@@ -7,6 +7,7 @@ use lib.ListN.{length}
 use Rattle.basis.specs.Turns.{in-turn}
 use Rattle.table.specs.declared.Table.{Table}
 use Rattle.state.specs.declared.State.{State}
+use Rattle.frame.specs.Mode.{Mode}
 use Rattle.walk.specs.Step.{Input, quiet, step}
 use Rattle.walk.specs.declared.Walked.{Walked}
 use Rattle.scheduler.specs.Taken.{Taken, mask-ok, taken}
@@ -16,12 +17,12 @@ abbrev pub quietly : List (List ℕ) → List Input
 quietly = map quiet
 
 -- What each call gives, in turn.
-unfoldable pub calls : Table → List Input → State → List Taken
-calls t a s = in-turn (taken t) (λ (r : Taken). r .state) a s
+unfoldable pub calls : Table → Mode → List Input → State → List Taken
+calls t mode a s = in-turn (taken t mode) (λ (r : Taken). r .state) a s
 
 -- What each inner step gives, in turn, where nothing is tested.
-unfoldable pub steps : Table → List Input → State → List Walked
-steps t a s = in-turn (step t) (λ (w : Walked). w .state) a s
+unfoldable pub steps : Table → Mode → List Input → State → List Walked
+steps t mode a s = in-turn (step t mode) (λ (w : Walked). w .state) a s
 
 -- Each step has one byte for each thread, and events of event threads only.
 pub data Whole-steps (t : Table) : List Input → Type 0 where

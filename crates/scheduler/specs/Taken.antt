@@ -1,4 +1,4 @@
--- A call of the step: the number it is refused with, in the order 11, 12, 13, 18, 14, or the step itself.
+-- A call of the step: the number it is refused with, in the order 11, 19, 12, 13, 18, 14, or the step itself.
 use Prim.Native.Nat.{ℕ}
 use mathlib.Core.List.{List, [], _∷_}
 use mathlib.Core.Bool.{Bool, not}
@@ -11,6 +11,7 @@ use Rattle.table.specs.Legal.{legal}
 use Rattle.table.specs.declared.Table.{Table}
 use Rattle.state.specs.State.{last-clock, fits}
 use Rattle.state.specs.Release.{has-event}
+use Rattle.frame.specs.Mode.{Mode, mode-ok}
 use Rattle.walk.specs.Step.{Input, step}
 use Rattle.state.specs.declared.State.{State}
 use Rattle.walk.specs.declared.Answer.{Answer}
@@ -53,19 +54,23 @@ took w = record { told = answered (values (w .answer)); state = w .state }
 unfoldable pub mask-ok : Table → ℕ → Bool
 mask-ok t mask = every 32 (λ i. or (not (has-event mask i)) (and (ltb i (t .count)) (eqb (thread t i .kind) 1)))
 
-unfoldable pub taken : Table → Input → State → Taken
-taken t x s =
-    pick (legal t)
-    (pick (fits t s)
+-- What a call gives whose step would be w, behind 11 and 19: in turn 12, 13, 18, 14, or that step.
+unfoldable pub taken-then : Table → Walked → Input → State → Taken
+taken-then t w x s =
+    pick (fits t s)
     (pick (eqb (length (x .bytes)) (t .count))
     (pick (mask-ok t (x .mask))
     (pick (ltb (s .clock) last-clock)
-    (took (step t x s))
+    (took w)
     (refused-step 14 s))
     (refused-step 18 s))
     (refused-step 13 s))
-    (refused-step 12 s))
-    (refused-step 11 s)
+    (refused-step 12 s)
+
+-- A call in a mode: 11 for the table and then 19 for a frame that does not pass with it come first.
+unfoldable pub taken : Table → Mode → Input → State → Taken
+taken t mode x s =
+    pick (legal t) (pick (mode-ok t mode) (taken-then t (step t mode x s) x s) (refused-step 19 s)) (refused-step 11 s)
 
 -- What an answer of the code gives.
 abbrev pub taken-of : Stepped → Taken

@@ -1,13 +1,22 @@
-// The scheduler: one step from every fitting state, or the number that refuses it.
+// The scheduler: one step from every fitting state, in a frame or without, or the number that refuses it.
 ghost use mathlib.Core.Path.{_≡_};
 ghost use mathlib.Core.List.{[]};
-ghost use Prim.Native.Nat.{_<_};
+ghost use Prim.Native.Nat.{_<_, _≤_};
 ghost use lib.Dec.{eqb, ltb};
 ghost use mathlib.Core.Bool.{not};
 ghost use Rattle.basis.specs.Tests.{and, or};
 ghost use Rattle.state.specs.Release.{has-event};
 ghost use Rattle.table.specs.Threads.{thread};
-ghost use Rattle.scheduler.specs.Taken.{mask-ok, taken, taken-of};
+ghost use Rattle.table.specs.Mark.{marks-of};
+ghost use Rattle.state.specs.Given.{Usable};
+ghost use Rattle.order.specs.Order.{ranked, Below};
+ghost use Rattle.frame.specs.Mode.{unframed, framed};
+ghost use Rattle.walk.specs.Step.{advance};
+ghost use Rattle.scheduler.specs.Taken.{mask-ok, taken-then, taken, taken-of};
+pub use frame::Frame;
+pub use frame::Window;
+use frame::domain_at;
+use frame::frame_passes;
 pub use state::Progress;
 pub use state::Started;
 pub use state::Starting;
@@ -18,7 +27,9 @@ use state::has_event;
 use table::Table;
 use table::legal;
 pub use walk::Answer;
+use walk::Prepared;
 use walk::advance;
+use walk::narrow;
 use walk::prepare;
 
 // A step's answer, or the number of its refusal.
@@ -77,13 +88,12 @@ fn mask_passes(t: Table, mask: u32) -> bool
     true
 }
 
-// One step: 11, 12, 13, 18, 14, or the answer and the next state.
-pub fn step(t: Table, s: State, mask: u32, bytes: &[u8]) -> Stepped
-    ensures { λ r. ⌜ taken-of r ≡ taken t (record { mask = mask; bytes = now (bytes .entry) }) s ⌝ }
+// A prepared step of a table that is known to be legal: 12, 13, 18, 14, or the answer and the next state.
+fn step_over(t: Table, p: Prepared, s: State, mask: u32, bytes: &[u8]) -> Stepped
+    requires { ⌜ Usable t ⌝ }
+    requires { ⌜ (p .order .count ≤ 32) × Below (t .count) (ranked (p .order)) × (p .marks ≡ marks-of t) ⌝ }
+    ensures { λ r. ⌜ taken-of r ≡ taken-then t (advance t (marks-of t) (ranked (p .order)) (record { mask = mask; bytes = now (bytes .entry) }) s) (record { mask = mask; bytes = now (bytes .entry) }) s ⌝ }
 {
-    if !legal(t) {
-        return refuse(11, s);
-    }
     if !fits(t, s) {
         return refuse(12, s);
     }
@@ -96,7 +106,6 @@ pub fn step(t: Table, s: State, mask: u32, bytes: &[u8]) -> Stepped
     if 1000000000 <= s.clock {
         return refuse(14, s);
     }
-    let p = prepare(t);
     let w = advance(t, p, s, mask, bytes);
     let a = w.answer;
     let next = w.state;
@@ -104,4 +113,31 @@ pub fn step(t: Table, s: State, mask: u32, bytes: &[u8]) -> Stepped
         outcome: Outcome::Chose(a),
         state: next,
     }
+}
+
+// One step: 11, 12, 13, 18, 14, or the answer and the next state.
+pub fn step(t: Table, s: State, mask: u32, bytes: &[u8]) -> Stepped
+    ensures { λ r. ⌜ taken-of r ≡ taken t unframed (record { mask = mask; bytes = now (bytes .entry) }) s ⌝ }
+{
+    if !legal(t) {
+        return refuse(11, s);
+    }
+    let p = prepare(t);
+    step_over(t, p, s, mask, bytes)
+}
+
+// One step in a frame: 11, 19, 12, 13, 18, 14, or the answer and the next state.
+pub fn step_in_frame(t: Table, f: Frame, s: State, mask: u32, bytes: &[u8]) -> Stepped
+    ensures { λ r. ⌜ taken-of r ≡ taken t (framed f) (record { mask = mask; bytes = now (bytes .entry) }) s ⌝ }
+{
+    if !legal(t) {
+        return refuse(11, s);
+    }
+    if !frame_passes(t, f) {
+        return refuse(19, s);
+    }
+    let all = prepare(t);
+    let d = domain_at(f, s.clock);
+    let p = narrow(t, all, d);
+    step_over(t, p, s, mask, bytes)
 }

@@ -25,8 +25,10 @@ use Rattle.state.specs.declared.Progress.{Progress}
 use Rattle.state.specs.declared.State.{State}
 use Rattle.state.proofs.ReleaseLaws.{release-length}
 use Rattle.state.proofs.TickLaws.{tick-keeps, tick-same, aged-rest, aged-finished}
-use Rattle.order.specs.Order.{order, Stands}
-use Rattle.order.proofs.OrderLaws.{Falling-from, order-falls-from, order-whole}
+use Rattle.order.specs.Order.{Stands}
+use Rattle.order.proofs.OrderLaws.{Falling-from}
+use Rattle.frame.specs.Mode.{Mode, threads-at, walks}
+use Rattle.frame.proofs.ModeLaws.{at-falls-from, at-whole}
 use Rattle.walk.specs.Walk.{heard, runs, walked, decided, visit, chosen, walk}
 use Rattle.walk.specs.Step.{Input, ticked, advance, step, Names, ran, idles, Says}
 use Rattle.walk.specs.declared.Answer.{Answer}
@@ -52,7 +54,7 @@ own-run k i ran = refl
 own-idle : (k i : ℕ) → Names k (IdleFor i) → k ≡ i
 own-idle k i idles = refl
 
-nobody : {A : Type 0} (k : ℕ) → Names k Idle → A
+pub nobody : {A : Type 0} (k : ℕ) → Names k Idle → A
 nobody k n = elim n [ ]
 
 module _ (m : List Mark) (b i : ℕ) (s : State) where
@@ -67,7 +69,7 @@ module _ (m : List Mark) (b i : ℕ) (s : State) where
       both-ways P _ _ _ refl (both-ways P _ _ _ (put-other (pay (heard b i s) i) i k _ d ∙ q) (both-ways P _ _ _ (search) (search)))
 
   -- It names its own thread, or nobody.
-  visit-names : (k : ℕ) → Names k (visit m b i s .answer) → k ≡ i
+  pub visit-names : (k : ℕ) → Names k (visit m b i s .answer) → k ≡ i
   unfolding visit decided
   visit-names k =
       let P : Walked → Type 0 = λ w. Names k (w .answer) → k ≡ i in
@@ -110,12 +112,12 @@ module _ (t : Table) (m : List Mark) (bs : List ℕ) where
       n
 
 -- Threads below the chosen one pay nothing, and their bytes are not heard: they are as the release left them, one tick later.
-pub below-chosen : (t : Table) (x : Input) (s : State) (i k : ℕ) → Names i (step t x s .answer) → thread t k .priority < thread t i .priority
-    → progress (step t x s .state) k ≡ progress (tick t (release t (x .mask) s)) k
+pub below-chosen : (t : Table) (mode : Mode) (x : Input) (s : State) (i k : ℕ) → Names i (step t mode x s .answer) → thread t k .priority < thread t i .priority
+    → progress (step t mode x s .state) k ≡ progress (tick t (release t (x .mask) s)) k
 unfolding step advance ticked
-below-chosen t x s i k n l =
+below-chosen t mode x s i k n l =
     let r : State = release t (x .mask) s in
-    tick-same t _ r (walk-length (marks-of t) (x .bytes) (order t) r) k (walk-below t (marks-of t) (x .bytes) i k 256 (order t) r (order-falls-from t) n l)
+    tick-same t _ r (walk-length (marks-of t) (x .bytes) (threads-at t mode (s .clock)) r) k (walk-below t (marks-of t) (x .bytes) i k 256 (threads-at t mode (s .clock)) r (at-falls-from t mode (s .clock)) n l)
 
 -- A thread with a rest is reached.
 reached : (m : List Mark) (b i : ℕ) (s : State) → 0 < progress s i .rest → visit m b i s ≡ decided m b i (heard b i s)
@@ -161,11 +163,11 @@ module _ (t : Table) (m : List Mark) (bs : List ℕ) where
       h)
 
 -- If nobody is chosen, no thread with a rest runs or is marked: the processor idles for want of work only.
-pub idle-only : (t : Table) → Legal t → (x : Input) (s : State) → step t x s .answer ≡ Idle → (i : ℕ) → i < t .count
+pub idle-only : (t : Table) (mode : Mode) → Legal t → (x : Input) (s : State) → step t mode x s .answer ≡ Idle → (i : ℕ) → i < t .count → walks t mode (s .clock) i ≡ true
     → 0 < progress (release t (x .mask) s) i .rest → (marked t i ≡ false) × (runs (getD (x .bytes) i 0) (progress (release t (x .mask) s) i) ≡ false)
 unfolding step advance ticked
-idle-only t g x s e i l h =
-    let w = walk-idle t (marks-of t) (x .bytes) i 256 (order t) _ (order-falls-from t) e (order-whole t g i l) h in
+idle-only t mode g x s e i l v h =
+    let w = walk-idle t (marks-of t) (x .bytes) i 256 (threads-at t mode (s .clock)) _ (at-falls-from t mode (s .clock)) e (at-whole t mode g (s .clock) i l v) h in
     (sym (set-exactly t i l) ∙ w .0, w .1)
 
 -- What a reached thread has left once it has paid.
@@ -230,12 +232,12 @@ module _ (t : Table) (m : List Mark) (bs : List ℕ) where
       h)
 
 -- The chosen thread is the first: above it no thread with a rest runs or is marked.
-pub chosen-first : (t : Table) → Legal t → (x : Input) (s : State) (k i : ℕ) → Names k (step t x s .answer)
-    → thread t k .priority < thread t i .priority → i < t .count → 0 < progress (release t (x .mask) s) i .rest
+pub chosen-first : (t : Table) (mode : Mode) → Legal t → (x : Input) (s : State) (k i : ℕ) → Names k (step t mode x s .answer)
+    → thread t k .priority < thread t i .priority → i < t .count → walks t mode (s .clock) i ≡ true → 0 < progress (release t (x .mask) s) i .rest
     → (marked t i ≡ false) × (runs (getD (x .bytes) i 0) (progress (release t (x .mask) s) i) ≡ false)
 unfolding step advance ticked
-chosen-first t g x s k i n l c h =
-    let w = walk-first t (marks-of t) (x .bytes) i k 256 (order t) _ (order-falls-from t) n l (order-whole t g i c) h in
+chosen-first t mode g x s k i n l c v h =
+    let w = walk-first t (marks-of t) (x .bytes) i k 256 (threads-at t mode (s .clock)) _ (at-falls-from t mode (s .clock)) n l (at-whole t mode g (s .clock) i c v) h in
     (sym (set-exactly t i c) ∙ w .0, w .1)
 
 -- Hearing does not change whether a thread runs: its byte is 1 or it does not run before and after.
@@ -329,20 +331,21 @@ module _ (t : Table) (m : List Mark) (bs : List ℕ) where
       h))
 
 -- The chosen thread runs, or it is marked and waits.
-pub chosen-says : (t : Table) (x : Input) (s : State) → Says (marks-of t) (x .bytes) (release t (x .mask) s) (step t x s .answer)
+pub chosen-says : (t : Table) (mode : Mode) (x : Input) (s : State) → Says (marks-of t) (x .bytes) (release t (x .mask) s) (step t mode x s .answer)
 unfolding step advance ticked
-chosen-says t x s = walk-says t (marks-of t) (x .bytes) 256 (order t) _ (order-falls-from t)
+chosen-says t mode x s = walk-says t (marks-of t) (x .bytes) 256 (threads-at t mode (s .clock)) _ (at-falls-from t mode (s .clock))
 
 -- Every thread with a rest, down to the chosen one or all where nobody is chosen, pays one.
-pub reached-pay-one : (t : Table) → Legal t → (x : Input) (s : State) → Fits t s → (i : ℕ) → i < t .count → 0 < progress (release t (x .mask) s) i .rest
-    → ((k : ℕ) → Names k (step t x s .answer) → thread t k .priority ≤ thread t i .priority) → pays t x s i ≡ 1
+pub reached-pay-one : (t : Table) (mode : Mode) → Legal t → (x : Input) (s : State) → Fits t s → (i : ℕ) → i < t .count → walks t mode (s .clock) i ≡ true
+    → 0 < progress (release t (x .mask) s) i .rest
+    → ((k : ℕ) → Names k (step t mode x s .answer) → thread t k .priority ≤ thread t i .priority) → pays t mode x s i ≡ 1
 unfolding pays step advance ticked
-reached-pay-one t g x s f i l h n =
+reached-pay-one t mode g x s f i l v h n =
     let long : length (release t (x .mask) s .threads) ≡ 32 = release-length t (x .mask) s ∙ f .long in
     let few : t .count ≤ 32 = g .count-high in
-    let w = walk-leaves t (marks-of t) (x .bytes) (λ k r p. r .rest + 1 ≡ p .rest) (λ k z u v. visit-takes t (marks-of t) (x .bytes) (getD (x .bytes) k 0) k z u v) i 256 (order t)
-    (release t (x .mask) s) (order-falls-from t) (rw long (omega arith)) (order-whole t g i l) h n in
-    let k = tick-keeps t (λ p. p .rest) aged-rest (walk (marks-of t) (x .bytes) (order t) (release t (x .mask) s) .state) i in
+    let w = walk-leaves t (marks-of t) (x .bytes) (λ k r p. r .rest + 1 ≡ p .rest) (λ k z u v. visit-takes t (marks-of t) (x .bytes) (getD (x .bytes) k 0) k z u v) i 256 (threads-at t mode (s .clock))
+    (release t (x .mask) s) (at-falls-from t mode (s .clock)) (rw long (omega arith)) (at-whole t mode g (s .clock) i l v) h n in
+    let k = tick-keeps t (λ p. p .rest) aged-rest (walk (marks-of t) (x .bytes) (threads-at t mode (s .clock)) (release t (x .mask) s) .state) i in
     omega (arith, w, k)
 
 -- What a finish does to a reached thread: 2 sets the mark, and nothing clears it.
@@ -355,13 +358,14 @@ visit-marks m b i s l h =
     rw (reached m b i s h) (reached-pays m b i (heard b i s) P (λ _. counted-mark m b i s l ∙ k) p p)
 
 -- Of every thread with a rest, down to the chosen one or all where nobody is chosen, the finish mark is set then if it was or the byte is 2.
-pub reached-marks : (t : Table) → Legal t → (x : Input) (s : State) → Fits t s → (i : ℕ) → i < t .count → 0 < progress (release t (x .mask) s) i .rest
-    → ((k : ℕ) → Names k (step t x s .answer) → thread t k .priority ≤ thread t i .priority)
-    → progress (step t x s .state) i .finished ≡ or (progress (release t (x .mask) s) i .finished) (eqb (getD (x .bytes) i 0) 2)
+pub reached-marks : (t : Table) (mode : Mode) → Legal t → (x : Input) (s : State) → Fits t s → (i : ℕ) → i < t .count → walks t mode (s .clock) i ≡ true
+    → 0 < progress (release t (x .mask) s) i .rest
+    → ((k : ℕ) → Names k (step t mode x s .answer) → thread t k .priority ≤ thread t i .priority)
+    → progress (step t mode x s .state) i .finished ≡ or (progress (release t (x .mask) s) i .finished) (eqb (getD (x .bytes) i 0) 2)
 unfolding step advance ticked
-reached-marks t g x s f i l h n =
+reached-marks t mode g x s f i l v h n =
     let long : length (release t (x .mask) s .threads) ≡ 32 = release-length t (x .mask) s ∙ f .long in
     let few : t .count ≤ 32 = g .count-high in
-    tick-keeps t (λ p. p .finished) aged-finished (walk (marks-of t) (x .bytes) (order t) (release t (x .mask) s) .state) i
+    tick-keeps t (λ p. p .finished) aged-finished (walk (marks-of t) (x .bytes) (threads-at t mode (s .clock)) (release t (x .mask) s) .state) i
     ∙ walk-leaves t (marks-of t) (x .bytes) (λ k r p. r .finished ≡ or (p .finished) (eqb (getD (x .bytes) k 0) 2)) (λ k z u v. visit-marks (marks-of t) (getD (x .bytes) k 0) k z u v) i 256
-    (order t) (release t (x .mask) s) (order-falls-from t) (rw long (omega arith)) (order-whole t g i l) h n
+    (threads-at t mode (s .clock)) (release t (x .mask) s) (at-falls-from t mode (s .clock)) (rw long (omega arith)) (at-whole t mode g (s .clock) i l v) h n

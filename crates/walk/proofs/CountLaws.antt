@@ -23,7 +23,7 @@ use Rattle.state.specs.declared.Progress.{Progress}
 use Rattle.state.specs.declared.State.{State}
 use Rattle.state.proofs.ReleaseLaws.{release-length}
 use Rattle.state.proofs.TickLaws.{tick-each, tick-same, aged-ran, aged-execution}
-use Rattle.order.specs.Order.{order}
+use Rattle.frame.specs.Mode.{Mode, threads-at}
 use Rattle.walk.specs.Walk.{heard, runs, walked, decided, visit, chosen, walk}
 use Rattle.walk.specs.Step.{Input, ticked, advance, step, ran-by}
 use Rattle.walk.specs.declared.Answer.{Answer}
@@ -128,20 +128,20 @@ module _ (R : Progress → ℕ → Progress → Type 0) (moves : Moves R) where
       rw (walk-on m bs j js s c) (moves .together _ _ _ _ w u))
 
   -- So a step moves the progress that the release left.
-  pub step-moves : (t : Table) (x : Input) (s : State) (i : ℕ) → i < length (s .threads)
-      → R (progress (step t x s .state) i) (ran-by i (step t x s .answer)) (progress (release t (x .mask) s) i)
+  pub step-moves : (t : Table) (mode : Mode) (x : Input) (s : State) (i : ℕ) → i < length (s .threads)
+      → R (progress (step t mode x s .state) i) (ran-by i (step t mode x s .answer)) (progress (release t (x .mask) s) i)
   unfolding step advance ticked
-  step-moves t x s i l =
+  step-moves t mode x s i l =
       let r : State = release t (x .mask) s in
-      let w : Walked = walk (marks-of t) (x .bytes) (order t) r in
+      let w : Walked = walk (marks-of t) (x .bytes) (threads-at t mode (s .clock)) r in
       let n : ℕ = ran-by i (w .answer) in
       tick-each t (w .state) (λ k p. k ≡ i → R p n (progress r i)) (λ k p u h e. moves .ages (thread t k) p _ n (h e))
-      (record { at = λ k e. rw e (walk-moves (marks-of t) (x .bytes) i (order t) r (rw (release-length t (x .mask) s) l)) }) .at i refl
+      (record { at = λ k e. rw e (walk-moves (marks-of t) (x .bytes) i (threads-at t mode (s .clock)) r (rw (release-length t (x .mask) s) l)) }) .at i refl
 
 -- The count of a thread goes up by one in a step exactly if it ran, ..
-pub step-counts : (t : Table) (x : Input) (s : State) → t .count ≤ 32 → Fits t s → (i : ℕ) → i < t .count
-    → progress (step t x s .state) i .ran ≡ progress (release t (x .mask) s) i .ran + ran-by i (step t x s .answer)
-step-counts t x s few f i l = step-moves (λ r n p. r .ran ≡ p .ran + n) counts t x s i (rw (f .long) (omega arith))
+pub step-counts : (t : Table) (mode : Mode) (x : Input) (s : State) → t .count ≤ 32 → Fits t s → (i : ℕ) → i < t .count
+    → progress (step t mode x s .state) i .ran ≡ progress (release t (x .mask) s) i .ran + ran-by i (step t mode x s .answer)
+step-counts t mode x s few f i l = step-moves (λ r n p. r .ran ≡ p .ran + n) counts t mode x s i (rw (f .long) (omega arith))
   where
     counts : Moves (λ r n p. r .ran ≡ p .ran + n)
     counts = record {
@@ -154,9 +154,9 @@ step-counts t x s few f i l = step-moves (λ r n p. r .ran ≡ p .ran + n) count
     }
 
 -- .. and its rest of execution down by one.
-pub step-runs : (t : Table) (x : Input) (s : State) (i : ℕ) → i < length (s .threads)
-    → progress (step t x s .state) i .execution + ran-by i (step t x s .answer) ≡ progress (release t (x .mask) s) i .execution
-step-runs t x s i l = step-moves (λ r n p. r .execution + n ≡ p .execution) slows t x s i l
+pub step-runs : (t : Table) (mode : Mode) (x : Input) (s : State) (i : ℕ) → i < length (s .threads)
+    → progress (step t mode x s .state) i .execution + ran-by i (step t mode x s .answer) ≡ progress (release t (x .mask) s) i .execution
+step-runs t mode x s i l = step-moves (λ r n p. r .execution + n ≡ p .execution) slows t mode x s i l
   where
     slows : Moves (λ r n p. r .execution + n ≡ p .execution)
     slows = record {
@@ -188,9 +188,9 @@ walk-rests m bs i (j ∷ js) s z =
     both-ways P _ _ _ v (walk-rests m bs i js _ (ap (λ (q : Progress). q .rest) v ∙ z) ∙ v)
 
 -- A thread that has no rest after the release stays as it is, one tick later.
-pub rest-stays : (t : Table) (x : Input) (s : State) (i : ℕ) → progress (release t (x .mask) s) i .rest ≡ 0
-    → progress (step t x s .state) i ≡ progress (tick t (release t (x .mask) s)) i
+pub rest-stays : (t : Table) (mode : Mode) (x : Input) (s : State) (i : ℕ) → progress (release t (x .mask) s) i .rest ≡ 0
+    → progress (step t mode x s .state) i ≡ progress (tick t (release t (x .mask) s)) i
 unfolding step advance ticked
-rest-stays t x s i z =
+rest-stays t mode x s i z =
     let r : State = release t (x .mask) s in
-    tick-same t _ r (walk-length (marks-of t) (x .bytes) (order t) r) i (walk-rests (marks-of t) (x .bytes) i (order t) r z)
+    tick-same t _ r (walk-length (marks-of t) (x .bytes) (threads-at t mode (s .clock)) r) i (walk-rests (marks-of t) (x .bytes) i (threads-at t mode (s .clock)) r z)

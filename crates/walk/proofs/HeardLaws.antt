@@ -6,13 +6,14 @@ use mathlib.Core.Bool.{Bool, true, false}
 use lib.ListN.{length, getD}
 use lib.Dec.{eqb}
 use Rattle.basis.specs.Tests.{pick}
+use Rattle.basis.proofs.TestLaws.{both-ways}
 use Rattle.table.specs.Mark.{marks-of}
 use Rattle.table.specs.declared.Table.{Table}
 use Rattle.table.specs.declared.Mark.{Mark}
 use Rattle.state.specs.declared.State.{State}
 use Rattle.walk.specs.declared.Answer.the-variants.{Idle}
 use Rattle.state.specs.State.{progress}
-use Rattle.order.specs.Order.{order}
+use Rattle.order.specs.Order.{All}
 use Rattle.state.specs.Release.{release}
 use Rattle.walk.specs.Walk.{walked, visit, chosen, walk}
 use Rattle.walk.specs.Step.{advance, step}
@@ -49,3 +50,11 @@ module _ (m : List Mark) (bs cs : List ℕ) where
   unfolding walk
   walk-hears [] s h = refl
   walk-hears (i ∷ is) s h = turn i is s (walk-hears is) _ refl h
+
+-- Only threads of the list are heard: bytes that are alike for all of them are alike where they are heard.
+pub alike-heard : (m : List Mark) (bs cs is : List ℕ) (s : State) → All (λ i. getD bs i 0 ≡ getD cs i 0) is → Alike bs cs (heard-by m bs is s)
+unfolding heard-by
+alike-heard m bs cs [] s h = tt
+alike-heard m bs cs (i ∷ is) s h =
+    both-ways (Alike bs cs) _ _ _ (alike-heard m bs cs is s (h .1))
+    (h .0, both-ways (Alike bs cs) _ _ _ tt (alike-heard m bs cs is _ (h .1)))

@@ -8,3 +8,4 @@ pub mod CountLaws
 pub mod SameLaws
 pub mod RunLaws
 pub mod ReleasedLaws
+pub mod OutsideLaws

@@ -22,8 +22,9 @@ use Rattle.state.proofs.StateLaws.{put-each}
 use Rattle.state.proofs.ReleaseLaws.{release-spends}
 use Rattle.state.proofs.TickLaws.{tick-keeps, aged-rest}
 use Rattle.state.proofs.FitLaws.{release-fits}
-use Rattle.order.specs.Order.{order}
-use Rattle.order.proofs.OrderLaws.{order-below, Falling-from, order-falls-from}
+use Rattle.order.proofs.OrderLaws.{Falling-from}
+use Rattle.frame.specs.Mode.{Mode, threads-at}
+use Rattle.frame.proofs.ModeLaws.{at-falls-from, at-below}
 use Rattle.walk.specs.Walk.{heard, decided, visit, walk}
 use Rattle.walk.specs.Step.{Input, ticked, advance, step}
 use Rattle.walk.specs.Paid.{pays, payments, Unreleased}
@@ -32,14 +33,14 @@ use Rattle.walk.proofs.WalkLaws.{walk-each}
 use Rattle.walk.proofs.StepLaws.{Spent, kept-spent}
 
 -- No thread's rest rises in the walk, so what it pays is the whole difference.
-pub step-spends : (t : Table) (x : Input) (s : State) → Spent (release t (x .mask) s) (step t x s .state)
+pub step-spends : (t : Table) (mode : Mode) (x : Input) (s : State) → Spent (release t (x .mask) s) (step t mode x s .state)
 unfolding step advance ticked
-step-spends t x s =
+step-spends t mode x s =
     let r : State = release t (x .mask) s in
-    let w : Spent r (walk (marks-of t) (x .bytes) (order t) r .state)
+    let w : Spent r (walk (marks-of t) (x .bytes) (threads-at t mode (s .clock)) r .state)
     = walk-each (marks-of t) (t .count) _ (kept-spent (t .count) r) (λ i p. p .rest ≤ progress r i .rest) (λ i p h. h)
-    (λ i p l h. h) (x .bytes) (order t) r (order-below t) (record { at = λ i. le-refl _ }) in
-    record { at = λ i. rw (tick-keeps t (λ p. p .rest) aged-rest (walk (marks-of t) (x .bytes) (order t) r .state) i) (w .at i) }
+    (λ i p l h. h) (x .bytes) (threads-at t mode (s .clock)) r (at-below t mode (s .clock)) (record { at = λ i. le-refl _ }) in
+    record { at = λ i. rw (tick-keeps t (λ p. p .rest) aged-rest (walk (marks-of t) (x .bytes) (threads-at t mode (s .clock)) r .state) i) (w .at i) }
 
 -- A walk down a falling list reaches each thread once.
 module _ (t : Table) (m : List Mark) (s : State) where
@@ -68,36 +69,36 @@ module _ (t : Table) (m : List Mark) (s : State) where
       let R : Walked → Type 0 = λ w. Each (λ i q. progress s i .rest ≤ q .rest + 1) (w .state) in
       both-ways R _ _ _ (record { at = λ j. v .at j .0 }) (walk-once (thread t i .priority) bs is _ (f .1) v)
 
-pub pays-once : (t : Table) (x : Input) (s : State) (i : ℕ) → pays t x s i ≤ 1
+pub pays-once : (t : Table) (mode : Mode) (x : Input) (s : State) (i : ℕ) → pays t mode x s i ≤ 1
 unfolding pays step advance ticked
-pays-once t x s i =
+pays-once t mode x s i =
     let r : State = release t (x .mask) s in
-    let w : Each (λ i q. progress r i .rest ≤ q .rest + 1) (walk (marks-of t) (x .bytes) (order t) r .state)
-    = walk-once t (marks-of t) r 256 (x .bytes) (order t) r (order-falls-from t) (record { at = λ i. (omega arith, λ u. le-refl _) }) in
-    let k = tick-keeps t (λ p. p .rest) aged-rest (walk (marks-of t) (x .bytes) (order t) r .state) i in
+    let w : Each (λ i q. progress r i .rest ≤ q .rest + 1) (walk (marks-of t) (x .bytes) (threads-at t mode (s .clock)) r .state)
+    = walk-once t (marks-of t) r 256 (x .bytes) (threads-at t mode (s .clock)) r (at-falls-from t mode (s .clock)) (record { at = λ i. (omega arith, λ u. le-refl _) }) in
+    let k = tick-keeps t (λ p. p .rest) aged-rest (walk (marks-of t) (x .bytes) (threads-at t mode (s .clock)) r .state) i in
     omega (arith, w .at i, k)
 
 -- While thread i is not released it pays no more than the rest it has.
-payments-left : (t : Table) (i : ℕ) (more : List Input) (s : State)
-    → Unreleased t i more s → payments t i more s ≤ progress s i .rest
+payments-left : (t : Table) (mode : Mode) (i : ℕ) (more : List Input) (s : State)
+    → Unreleased t mode i more s → payments t mode i more s ≤ progress s i .rest
 unfolding payments pays
-payments-left t i [] s n = zero-le
-payments-left t i (x ∷ more) s n =
+payments-left t mode i [] s n = zero-le
+payments-left t mode i (x ∷ more) s n =
     omega (
       arith,
-      step-spends t x s .at i,
+      step-spends t mode x s .at i,
       release-spends t i (x .mask) s (n .0),
-      payments-left t i more (step t x s .state) (n .1),
+      payments-left t mode i more (step t mode x s .state) (n .1),
     )
 
 -- From a fitting state: W at most, over a first step and more in which thread i is not released.
-pub payments-most : (t : Table) (i : ℕ) (x : Input) (more : List Input) (s : State) → i < t .count → Fits t s
-    → Unreleased t i more (step t x s .state) → payments t i (x ∷ more) s ≤ thread t i .budget
+pub payments-most : (t : Table) (mode : Mode) (i : ℕ) (x : Input) (more : List Input) (s : State) → i < t .count → Fits t s
+    → Unreleased t mode i more (step t mode x s .state) → payments t mode i (x ∷ more) s ≤ thread t i .budget
 unfolding payments pays
-payments-most t i x more s l f n =
+payments-most t mode i x more s l f n =
     omega (
       arith,
-      step-spends t x s .at i,
+      step-spends t mode x s .at i,
       release-fits t (x .mask) s f .at i .rest-high l,
-      payments-left t i more (step t x s .state) n,
+      payments-left t mode i more (step t mode x s .state) n,
     )

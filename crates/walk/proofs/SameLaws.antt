@@ -15,7 +15,7 @@ use Rattle.table.specs.declared.Table.{Table}
 use Rattle.table.proofs.MarkLaws.{marked-some, set-exactly}
 use Rattle.state.specs.Release.{release}
 use Rattle.state.specs.declared.State.{State}
-use Rattle.order.specs.Order.{order}
+use Rattle.frame.specs.Mode.{Mode, threads-at}
 use Rattle.walk.specs.Walk.{decided, visit, walk}
 use Rattle.walk.specs.Step.{Input, advance, step}
 
@@ -46,6 +46,6 @@ bare-same t i =
     ∙ sym (listed-past (λ k. mark (protects t k)) (t .count) (32 - t .count) i (mark nothing) (ltb-false _ _ e))))
 
 -- The step by those marks is the step, of every table, from every state, for all events and bytes: the schedule stayed as it was.
-pub same-schedule : (t : Table) (x : Input) (s : State) → advance t (bare-marks t) (order t) x s ≡ step t x s
+pub same-schedule : (t : Table) (mode : Mode) (x : Input) (s : State) → advance t (bare-marks t) (threads-at t mode (s .clock)) x s ≡ step t mode x s
 unfolding step advance
-same-schedule t x s = rw (walk-sets (bare-marks t) (marks-of t) (bare-same t) (x .bytes) (order t) (release t (x .mask) s))
+same-schedule t mode x s = rw (walk-sets (bare-marks t) (marks-of t) (bare-same t) (x .bytes) (threads-at t mode (s .clock)) (release t (x .mask) s))

@@ -21,8 +21,9 @@ use Rattle.state.specs.declared.State.{State}
 use Rattle.state.proofs.ReleaseLaws.{release-clock, release-length}
 use Rattle.state.proofs.FitLaws.{release-fits, aged-fits, later-fits}
 use Rattle.state.proofs.TickLaws.{tick-length, tick-each}
-use Rattle.order.specs.Order.{order, Below}
-use Rattle.order.proofs.OrderLaws.{order-below}
+use Rattle.order.specs.Order.{Below}
+use Rattle.frame.specs.Mode.{Mode, threads-at}
+use Rattle.frame.proofs.ModeLaws.{at-below}
 use Rattle.walk.specs.Walk.{decided, visit, chosen, walk}
 use Rattle.walk.specs.Step.{Input, ticked, advance, step, Rested}
 use Rattle.walk.specs.declared.Answer.{Answer}
@@ -76,14 +77,19 @@ module _ (t : Table) (m : List Mark) (is : List ℕ) (x : Input) (s : State) whe
         places = λ i. subst (λ (k : ℕ). Place-fits t k i (progress (advance t m is x s .state) i)) (sym advance-clock) (a .at i);
       }
 
-module _ (t : Table) (x : Input) (s : State) where
-  pub step-clock : step t x s .state .clock ≡ s .clock + 1
+module _ (t : Table) (mode : Mode) (x : Input) (s : State) where
+  -- The step goes by the whole table's marks, in both modes.
+  pub step-by : step t mode x s ≡ advance t (marks-of t) (threads-at t mode (s .clock)) x s
   unfolding step
-  step-clock = advance-clock t (marks-of t) (order t) x s
+  step-by = refl
 
-  pub step-fits : Fits t s → s .clock < last-clock → Fits t (step t x s .state)
+  pub step-clock : step t mode x s .state .clock ≡ s .clock + 1
   unfolding step
-  step-fits f h = advance-fits t (marks-of t) (order t) x s (order-below t) f h
+  step-clock = advance-clock t (marks-of t) (threads-at t mode (s .clock)) x s
+
+  pub step-fits : Fits t s → s .clock < last-clock → Fits t (step t mode x s .state)
+  unfolding step
+  step-fits f h = advance-fits t (marks-of t) (threads-at t mode (s .clock)) x s (at-below t mode (s .clock)) f h
 
 -- No thread has more rest than in s.
 abbrev pub Spent : State → State → Type 0
@@ -143,8 +149,8 @@ rested-of Idle s e = record {
 }
 
 -- The thread chosen had a rest above 0 when the walk began.
-pub chosen-rested : (t : Table) (x : Input) (s : State) → Rested (step t x s .answer) (release t (x .mask) s)
+pub chosen-rested : (t : Table) (mode : Mode) (x : Input) (s : State) → Rested (step t mode x s .answer) (release t (x .mask) s)
 unfolding step advance ticked
-chosen-rested t x s =
+chosen-rested t mode x s =
     let r = release t (x .mask) s in
-    rested-of _ r (walk-rested (marks-of t) (x .bytes) r (order t) r (record { at = λ i. le-refl _ }))
+    rested-of _ r (walk-rested (marks-of t) (x .bytes) r (threads-at t mode (s .clock)) r (record { at = λ i. le-refl _ }))

@@ -7,23 +7,24 @@ use Rattle.table.specs.declared.Table.{Table}
 use Rattle.state.specs.State.{progress}
 use Rattle.state.specs.Release.{release, releases}
 use Rattle.state.specs.declared.State.{State}
+use Rattle.frame.specs.Mode.{Mode}
 use Rattle.walk.specs.Step.{Input, step, ran-by}
 
 -- What thread i pays in a step: the rest it has after the release, less the rest it has after the step.
-unfoldable pub pays : Table → Input → State → ℕ → ℕ
-pays t x s i = progress (release t (x .mask) s) i .rest - progress (step t x s .state) i .rest
+unfoldable pub pays : Table → Mode → Input → State → ℕ → ℕ
+pays t mode x s i = progress (release t (x .mask) s) i .rest - progress (step t mode x s .state) i .rest
 
 -- What thread i pays in all, over steps in turn.
-unfoldable pub payments : Table → ℕ → List Input → State → ℕ
-payments t i [] s = 0
-payments t i (x ∷ more) s = pays t x s i + payments t i more (step t x s .state)
+unfoldable pub payments : Table → Mode → ℕ → List Input → State → ℕ
+payments t mode i [] s = 0
+payments t mode i (x ∷ more) s = pays t mode x s i + payments t mode i more (step t mode x s .state)
 
 -- How often thread i runs, over steps in turn.
-unfoldable pub runs-of : Table → ℕ → List Input → State → ℕ
-runs-of t i [] s = 0
-runs-of t i (x ∷ more) s = ran-by i (step t x s .answer) + runs-of t i more (step t x s .state)
+unfoldable pub runs-of : Table → Mode → ℕ → List Input → State → ℕ
+runs-of t mode i [] s = 0
+runs-of t mode i (x ∷ more) s = ran-by i (step t mode x s .answer) + runs-of t mode i more (step t mode x s .state)
 
 -- None of these steps is a release of thread i.
-abbrev pub Unreleased : Table → ℕ → List Input → State → Type 0
-Unreleased t i [] s = Unit {0}
-Unreleased t i (x ∷ more) s = (releases t i (x .mask) s ≡ false) × Unreleased t i more (step t x s .state)
+abbrev pub Unreleased : Table → Mode → ℕ → List Input → State → Type 0
+Unreleased t mode i [] s = Unit {0}
+Unreleased t mode i (x ∷ more) s = (releases t i (x .mask) s ≡ false) × Unreleased t mode i more (step t mode x s .state)

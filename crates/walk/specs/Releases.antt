@@ -5,9 +5,10 @@ use mathlib.Core.Bool.{Bool}
 use Rattle.table.specs.declared.Table.{Table}
 use Rattle.state.specs.Release.{releases}
 use Rattle.state.specs.declared.State.{State}
+use Rattle.frame.specs.Mode.{Mode}
 use Rattle.walk.specs.Step.{Input, step}
 
 -- Whether each step is a release of thread i, over steps in turn.
-unfoldable pub releases-in : Table → ℕ → List Input → State → List Bool
-releases-in t i [] s = []
-releases-in t i (x ∷ more) s = releases t i (x .mask) s ∷ releases-in t i more (step t x s .state)
+unfoldable pub releases-in : Table → Mode → ℕ → List Input → State → List Bool
+releases-in t mode i [] s = []
+releases-in t mode i (x ∷ more) s = releases t i (x .mask) s ∷ releases-in t mode i more (step t mode x s .state)

@@ -13,7 +13,7 @@ use Rattle.state.specs.State.{progress}
 use Rattle.state.specs.Release.{release}
 use Rattle.state.specs.Methods.{tick}
 use Rattle.state.specs.declared.State.{State}
-use Rattle.order.specs.Order.{order}
+use Rattle.frame.specs.Mode.{Mode, threads-at}
 use Rattle.walk.specs.Walk.{runs, walked, walk}
 use Rattle.walk.specs.declared.Answer.{Answer}
 use Rattle.walk.specs.declared.Answer.the-variants.{Ran, IdleFor, Idle}
@@ -36,9 +36,9 @@ ticked t w = walked (w .answer) (tick t (w .state))
 unfoldable pub advance : Table → List Mark → List ℕ → Input → State → Walked
 advance t m is x s = ticked t (walk m (x .bytes) is (release t (x .mask) s))
 
--- One step: the walk goes from the highest priority down with the table's marks.
-unfoldable pub step : Table → Input → State → Walked
-step t x s = advance t (marks-of t) (order t) x s
+-- One step: the walk goes from the highest priority down, over the threads of its mode at that clock, with the whole table's marks.
+unfoldable pub step : Table → Mode → Input → State → Walked
+step t mode x s = advance t (marks-of t) (threads-at t mode (s .clock)) x s
 
 -- The thread that an answer names has a rest above 0.
 pub record Rested (a : Answer) (s : State) : Type 0 where

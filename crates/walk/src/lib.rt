@@ -6,8 +6,10 @@ ghost use Rattle.table.specs.Mark.{marks-of};
 ghost use Rattle.state.specs.State.{last-clock, Fits};
 ghost use Rattle.state.specs.Given.{Usable};
 ghost use Rattle.order.specs.Order.{order, ranked, Below};
+ghost use Rattle.order.specs.Open.{open-to};
 ghost use Rattle.walk.specs.Step.{advance};
 use order::Ranks;
+use order::open_to;
 use order::rank;
 use state::State;
 use table::Mark;
@@ -44,6 +46,17 @@ pub fn prepare(t: Table) -> Prepared
 {
     let order = rank(t);
     let marks = mark_all(t);
+    Prepared { order, marks }
+}
+
+// The same for a window of domain d: the walk goes over the threads that are open to d, with the whole table's marks.
+pub fn narrow(t: Table, p: Prepared, d: u8) -> Prepared
+    requires { ⌜ (t .count ≤ 32) × (p .order .count ≤ 32) × Below (t .count) (ranked (p .order)) ⌝ }
+    ensures { λ r. ⌜ (r .order .count ≤ 32) × (ranked (r .order) ≡ open-to t d (ranked (p .order))) × (r .marks ≡ p .marks) ⌝ }
+{
+    let all = p.order;
+    let marks = p.marks;
+    let order = open_to(t, all, d);
     Prepared { order, marks }
 }
 

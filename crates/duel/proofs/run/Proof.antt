@@ -5,10 +5,10 @@ use Rattle.duel.proofs.run.Statement.{statement}
 use Rattle.duel.proofs.run.Tie as tie
 
 abbrev Inv-loop : tie.InvT-loop
-Inv-loop tally₀ seed t steps s₀ k₀ tally s k = Unit {0}
+Inv-loop tally₀ seed t f steps s₀ framed₀ k₀ tally s framed k = Unit {0}
 
 abbrev μ-loop : tie.MeasureT-loop
-μ-loop tally₀ seed t steps s₀ k₀ tally s k = steps - k
+μ-loop tally₀ seed t f steps s₀ framed₀ k₀ tally s framed k = steps - k
 
 loop-holds : tie.Need-loop-holds Inv-loop μ-loop
 loop-holds c = search needs
@@ -22,17 +22,17 @@ bytes-requires c κs = search needs
 mask-requires : tie.Need-mask-requires Inv-loop μ-loop
 mask-requires c κs = search needs
 
-slice-aggregate-step : tie.Need-slice-aggregate-step Inv-loop μ-loop
-slice-aggregate-step c = search needs
+slice-aggregate-turn : tie.Need-slice-aggregate-turn Inv-loop μ-loop
+slice-aggregate-turn c = search needs
 
-step-requires : tie.Need-step-requires Inv-loop μ-loop
-step-requires c κs = search needs
+turn-requires : tie.Need-turn-requires Inv-loop μ-loop
+turn-requires c κs = search needs
 
-count-requires : tie.Need-count-requires Inv-loop μ-loop
-count-requires c κs = search needs
+slice-aggregate-turn-in-frame : tie.Need-slice-aggregate-turn-in-frame Inv-loop μ-loop
+slice-aggregate-turn-in-frame c = search needs
 
-events-requires : tie.Need-events-requires Inv-loop μ-loop
-events-requires c κs = search needs
+turn-in-frame-requires : tie.Need-turn-in-frame-requires Inv-loop μ-loop
+turn-in-frame-requires c κs = search needs
 
 add-k : tie.Need-add-k Inv-loop μ-loop
 add-k c = search needs
@@ -56,10 +56,10 @@ run-spec =
     part-requires
     bytes-requires
     mask-requires
-    slice-aggregate-step
-    step-requires
-    count-requires
-    events-requires
+    slice-aggregate-turn
+    turn-requires
+    slice-aggregate-turn-in-frame
+    turn-in-frame-requires
     add-k
     loop-less
     loop-again

@@ -1,14 +1,14 @@
--- `rival::walk::walk` is safe and ends: k counts up to 32.
+-- `rival::visits::walk` is safe and ends: k counts up to 32.
 use Prim.Native.Nat.{_-_}
 use borrow.Author.Needs.{needs}
 use Rattle.rival.proofs.visits.walk.Statement.{statement}
 use Rattle.rival.proofs.visits.walk.Tie as tie
 
 abbrev Inv-loop : tie.InvT-loop
-Inv-loop bytes by-priority marks now₀ k₀ now k = Unit {0}
+Inv-loop among bytes by-priority marks now₀ k₀ now k = Unit {0}
 
 abbrev μ-loop : tie.MeasureT-loop
-μ-loop bytes by-priority marks now₀ k₀ now k = 32 - k
+μ-loop among bytes by-priority marks now₀ k₀ now k = 32 - k
 
 order-requires : tie.Need-order-requires Inv-loop μ-loop
 order-requires c κs = search needs
@@ -21,6 +21,9 @@ loop-holds c = search needs
 
 array-read-i : tie.Need-array-read-i Inv-loop μ-loop
 array-read-i c = search needs
+
+has-requires : tie.Need-has-requires Inv-loop μ-loop
+has-requires c κs = search needs
 
 cast-come : tie.Need-cast-come Inv-loop μ-loop
 cast-come c = search needs
@@ -53,6 +56,7 @@ walk-spec =
     leaks-requires
     loop-holds
     array-read-i
+    has-requires
     cast-come
     array-read-come
     come-requires

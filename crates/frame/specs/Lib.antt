@@ -1,0 +1,4 @@
+pub mod Frame
+pub mod Opened
+pub mod Worked
+pub mod Mode
