@@ -1,15 +1,13 @@
 -- The three demands hold: each sentence by the law that stands beside its definition.
-use Prim.Native.Nat.{ℕ, _<_}
-use mathlib.Core.Path.{_≡_, refl, ap}
+use mathlib.Core.Path.{_≡_, ap}
 use mathlib.Core.Logic.{_↔_}
 use mathlib.Core.List.{[]}
 use mathlib.Core.Bool.{true, false}
 use native.Mathlib.Omega.{arith}
-use lib.ListN.{replicate}
 use Rattle.basis.specs.Tests.{pick}
 use Rattle.basis.specs.Told.{Told, answered, refused}
 use Rattle.basis.proofs.TestLaws.{by-test}
-use Rattle.table.specs.Legal.{legal, Legal}
+use Rattle.table.specs.Legal.{legal}
 use Rattle.table.specs.Mark.{marking}
 use Rattle.table.specs.declared.Table.{Table}
 use Rattle.table.proofs.LegalLaws.{legal-sound, legal-complete}
@@ -19,15 +17,13 @@ use Rattle.writer.proofs.WriterLaws.{refused-stays}
 use Rattle.writer.proofs.NumberLaws.{write-number-exactly}
 use Rattle.codec.proofs.RoundTrip.{accepted-exactly, read-write, write-read}
 use Rattle.codec.proofs.JudgingLaws.{judged-exactly}
-use Rattle.state.specs.State.{no-progress}
-use Rattle.state.specs.declared.Progress.{Progress}
-use Rattle.state.specs.declared.State.{State}
 use Rattle.state.proofs.FitLaws.{fits-sound, fits-complete, longest-event, longest-periodic}
 use Rattle.state.proofs.StartLaws.{fresh-refused, fresh-answered, fresh-zero, fresh-legal, fresh-clock, fresh-event, fresh-periodic}
 use Rattle.state.proofs.TickLaws.{tick-leaves}
 use Rattle.state.proofs.ReleaseLaws.{releases-exactly, release-at, clock-released, event-released, at-release, before-offset, other-phases, past-deadline, at-event, early-event, before-deadline, after-deadline}
 use Rattle.frame.proofs.FrameLaws.{ok-framed, framed-timed, falls, falls-once, starts, repeats-ever}
 use Rattle.frame.proofs.ModeLaws.{unframed-passes, frames-exactly, unframed-walks, framed-walks, window-domain}
+use Rattle.walk.proofs.MarksLaws.{at-marks}
 use Rattle.walk.proofs.OutsideLaws.{chosen-walks, outside-stays}
 use Rattle.walk.proofs.StepLaws.{step-clock, chosen-rested}
 use Rattle.walk.proofs.ReachedLaws.{runs-exactly, two-finishes, strange-waits}
@@ -39,7 +35,6 @@ use Rattle.walk.proofs.ChoiceLaws.{below-chosen, idle-only, chosen-first, chose
 use Rattle.scheduler.proofs.RefusalLaws.{number-exactly, refused-keeps, same-refusal, taken-steps, mask-exactly}
 use Rattle.scheduler.proofs.CallLaws.{calls-steps}
 use Rattle.scheduler.proofs.HeardLaws.{outside-unheard}
-use Rattle.sight.specs.Shown.{showing-state, threads-shown}
 use Rattle.sight.proofs.SightLaws.{visible-exactly, seen-at, hidden-at}
 use Rattle.sight.proofs.NumberLaws.{view-number-exactly, state-number-exactly, refused-zeros}
 use Rattle.isolation.proofs.Isolation.{telling-chosen, telling-refused, demand-3, state-always-shown}
@@ -107,6 +102,7 @@ demand-2-holds = record {
   marks-name = marks-name;
   marked-exactly = λ t i. (mark-sound t i, mark-complete t i);
   set-exactly = set-exactly;
+  at-marks = at-marks;
   call-steps = λ t mode ok o x e m s f l. taken-steps t mode x s ok o (fits-complete t s f) e m l;
   run-steps = calls-steps;
   fresh-legal = fresh-legal;

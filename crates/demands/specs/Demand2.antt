@@ -33,7 +33,7 @@ use Rattle.frame.specs.Frame.{window, frame-ok, frame-length, window-at, domain
 use Rattle.frame.specs.Mode.{Mode, unframed, framed, mode-ok, walks}
 use Rattle.frame.specs.declared.Frame.{Frame}
 use Rattle.walk.specs.Walk.{heard, runs, visit}
-use Rattle.walk.specs.Step.{Input, step, Rested, Names, Says, ran-by}
+use Rattle.walk.specs.Step.{Input, marks-at, step, Rested, Names, Says, ran-by}
 use Rattle.walk.specs.Paid.{pays, payments, runs-of, Unreleased}
 use Rattle.walk.specs.Releases.{releases-in}
 use Rattle.walk.specs.declared.Answer.the-variants.{Ran, Idle}
@@ -56,9 +56,10 @@ pub record Demand-2 : Type 0 where
   pub marks : (t : Table) (i : ℕ) → legal t ≡ true → i < t .count → (is-set (marks-given t) i ≡ true) ↔ Leaks t i
   -- Its mark names the first such thread in table order.
   pub marks-name : (t : Table) (i j : ℕ) → legal t ≡ true → i < t .count → (getD (marks-given t) i (mark nothing) ≡ mark (found j)) ↔ Protects t i j
-  -- The step goes by the same marks.
+  -- The step goes by the same marks, at every clock of both modes.
   pub marked-exactly : (t : Table) (i : ℕ) → (marked t i ≡ true) ↔ Leaks t i
   pub set-exactly : (t : Table) (i : ℕ) → i < t .count → is-set (marks-of t) i ≡ marked t i
+  pub at-marks : (t : Table) (mode : Mode) (c i : ℕ) → i < t .count → is-set (marks-at t mode c) i ≡ marked t i
   -- From every fitting state a call that nothing refuses is the step, and so is each of a whole run of them.
   pub call-steps : (t : Table) (mode : Mode) → legal t ≡ true → mode-ok t mode ≡ true → (x : Input) → length (x .bytes) ≡ t .count → mask-ok t (x .mask) ≡ true → (s : State) → Fits t s
       → s .clock < last-clock → taken t mode x s ≡ took (step t mode x s)

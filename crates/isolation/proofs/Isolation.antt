@@ -1,6 +1,6 @@
 -- Demand 3: what a domain is shown of a run does not depend on the bytes of threads whose domain may not flow to it. It holds
 -- call by call: states that are alike for d and fit stay so (`Lockstep`), and no refusal looks at a byte's value.
-use Prim.Native.Nat.{ℕ, _+_, _<_}
+use Prim.Native.Nat.{ℕ, _<_}
 use mathlib.Core.Logic.{_≢_}
 use mathlib.Core.Path.{_≡_, refl, sym, ap, ap₂, _∙_, subst}
 use mathlib.Core.List.{List, [], _∷_, map}
@@ -27,8 +27,8 @@ use Rattle.frame.specs.Mode.{Mode, mode-ok, threads-at}
 use Rattle.frame.proofs.ModeLaws.{at-falls, at-below}
 use Rattle.walk.specs.Step.{Input, ticked, advance, step}
 use Rattle.walk.specs.declared.Answer.{Answer}
-use Rattle.walk.proofs.StepLaws.{step-by}
-use Rattle.scheduler.specs.Taken.{Taken, values, answer-of, told, took, refused-step, mask-ok, taken}
+use Rattle.walk.proofs.MarksLaws.{step-by}
+use Rattle.scheduler.specs.Taken.{Taken, values, told, mask-ok, taken}
 use Rattle.scheduler.specs.Calls.{calls}
 use Rattle.scheduler.specs.declared.Outcome.the-variants.{Chose, Refused}
 use Rattle.scheduler.proofs.UniqueLaws.{answer-back}

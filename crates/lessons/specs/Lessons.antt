@@ -26,7 +26,7 @@ use Rattle.order.specs.Order.{down, order}
 use Rattle.walk.specs.Walk.{heard, runs, walked, decided, visit, chosen, walk}
 use Rattle.frame.specs.Frame.{no-window}
 use Rattle.frame.specs.Mode.{Mode, unframed, framed, threads-at, walks}
-use Rattle.walk.specs.Step.{Input, ticked, advance, step}
+use Rattle.walk.specs.Step.{Input, ticked, advance, marks-at, step}
 use Rattle.walk.specs.declared.Answer.{Answer}
 use Rattle.walk.specs.declared.Answer.the-variants.{Ran, IdleFor, Idle}
 use Rattle.walk.specs.declared.Walked.{Walked}
@@ -84,7 +84,7 @@ walk-same m bs [] s = refl
 walk-same m bs (i ∷ is) s = rw (walk-same m bs is)
 
 pub visiting-same : (t : Table) (x : Input) (s : State) → visiting visit t x s ≡ step t unframed x s
-unfolding visiting step advance threads-at
+unfolding visiting step marks-at advance threads-at
 visiting-same t x s = rw (walk-same (marks-of t))
 
 -- A thread of a domain, with a priority, a period and a budget; its offset is 0 and its deadline the period.
@@ -436,7 +436,7 @@ marking-window mode t x s = advance t (window-marks t mode (s .clock)) (threads-
 
 -- Without a frame it is the step: every thread is walked.
 pub marking-window-same : (t : Table) (x : Input) (s : State) → marking-window unframed t x s ≡ step t unframed x s
-unfolding marking-window window-marks step marks-of protects walks
+unfolding marking-window window-marks step marks-at marks-of protects walks
 marking-window-same t x s = refl
 
 abbrev window-marks-only : Lesson

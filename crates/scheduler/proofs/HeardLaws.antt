@@ -11,17 +11,19 @@ use Rattle.state.specs.declared.State.{State}
 use Rattle.order.proofs.OrderLaws.{all-map}
 use Rattle.frame.specs.Mode.{Mode, threads-at, walks}
 use Rattle.frame.proofs.ModeLaws.{at-all}
-use Rattle.walk.specs.Step.{advance, step}
+use Rattle.walk.specs.Step.{advance}
 use Rattle.walk.specs.Heard.{heard-by, Alike}
 use Rattle.walk.proofs.HeardLaws.{walk-hears, alike-heard}
+use Rattle.walk.proofs.MarksLaws.{step-by}
 use Rattle.scheduler.specs.Taken.{taken-then, taken}
 
 -- Two calls with as many bytes, alike where they are heard, are the same call.
 pub unheard-nothing : (t : Table) (mode : Mode) (mask : ℕ) (bs cs : List ℕ) (s : State) → length bs ≡ length cs
     → Alike bs cs (heard-by (marks-of t) bs (threads-at t mode (s .clock)) (release t mask s))
     → taken t mode (record { mask = mask; bytes = bs }) s ≡ taken t mode (record { mask = mask; bytes = cs }) s
-unfolding taken taken-then step advance
-unheard-nothing t mode mask bs cs s l h = rw (l, walk-hears (marks-of t) bs cs (threads-at t mode (s .clock)) (release t mask s) h)
+unfolding taken taken-then advance
+unheard-nothing t mode mask bs cs s l h =
+    rw (step-by t mode (record { mask = mask; bytes = bs }) s, step-by t mode (record { mask = mask; bytes = cs }) s, l, walk-hears (marks-of t) bs cs (threads-at t mode (s .clock)) (release t mask s) h)
 
 -- So bytes of threads that the mode does not have at that clock change nothing.
 pub outside-unheard : (t : Table) (mode : Mode) (mask : ℕ) (bs cs : List ℕ) (s : State) → length bs ≡ length cs

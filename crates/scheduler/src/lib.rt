@@ -7,7 +7,6 @@ ghost use mathlib.Core.Bool.{not};
 ghost use Rattle.basis.specs.Tests.{and, or};
 ghost use Rattle.state.specs.Release.{has-event};
 ghost use Rattle.table.specs.Threads.{thread};
-ghost use Rattle.table.specs.Mark.{marks-of};
 ghost use Rattle.state.specs.Given.{Usable};
 ghost use Rattle.order.specs.Order.{ranked, Below};
 ghost use Rattle.frame.specs.Mode.{unframed, framed};
@@ -91,8 +90,8 @@ fn mask_passes(t: Table, mask: u32) -> bool
 // A prepared step of a table that is known to be legal: 12, 13, 18, 14, or the answer and the next state.
 fn step_over(t: Table, p: Prepared, s: State, mask: u32, bytes: &[u8]) -> Stepped
     requires { ⌜ Usable t ⌝ }
-    requires { ⌜ (p .order .count ≤ 32) × Below (t .count) (ranked (p .order)) × (p .marks ≡ marks-of t) ⌝ }
-    ensures { λ r. ⌜ taken-of r ≡ taken-then t (advance t (marks-of t) (ranked (p .order)) (record { mask = mask; bytes = now (bytes .entry) }) s) (record { mask = mask; bytes = now (bytes .entry) }) s ⌝ }
+    requires { ⌜ (p .order .count ≤ 32) × Below (t .count) (ranked (p .order)) ⌝ }
+    ensures { λ r. ⌜ taken-of r ≡ taken-then t (advance t (p .marks) (ranked (p .order)) (record { mask = mask; bytes = now (bytes .entry) }) s) (record { mask = mask; bytes = now (bytes .entry) }) s ⌝ }
 {
     if !fits(t, s) {
         return refuse(12, s);

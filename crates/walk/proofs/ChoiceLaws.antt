@@ -6,17 +6,16 @@ use mathlib.Core.Bool.{true, false, not, true≢false}
 use mathlib.Core.Logic.{_≢_, ⊎-elim}
 use native.Mathlib.Omega.{arith}
 use native.Mathlib.Nat.{lt-trans}
-use borrow.Author.Tests.{ne-eqb, eqb-true, eqb-false, lt-ltb}
+use borrow.Author.Tests.{ne-eqb, eqb-true, lt-ltb}
 use lib.ListN.{length, getD, length-set}
 use lib.Seq.{getD-set-same, getD-set-other}
 use lib.Dec.{eqb}
 use Rattle.basis.specs.Tests.{pick, and, or}
-use Rattle.basis.proofs.TestLaws.{both-ways, either, by-test, refuted, fails, and-both, or-true, or-false}
+use Rattle.basis.proofs.TestLaws.{both-ways, either, by-test, refuted, fails, or-true, or-false}
 use Rattle.table.specs.Threads.{thread}
 use Rattle.table.specs.Legal.{Legal}
 use Rattle.table.specs.Mark.{marked, marks-of, is-set}
 use Rattle.table.specs.declared.Table.{Table}
-use Rattle.table.proofs.MarkLaws.{set-exactly}
 use Rattle.table.specs.declared.Mark.{Mark}
 use Rattle.state.specs.State.{no-progress, progress, put, Fits}
 use Rattle.state.specs.Release.{release}
@@ -30,12 +29,13 @@ use Rattle.order.proofs.OrderLaws.{Falling-from}
 use Rattle.frame.specs.Mode.{Mode, threads-at, walks}
 use Rattle.frame.proofs.ModeLaws.{at-falls-from, at-whole}
 use Rattle.walk.specs.Walk.{heard, runs, walked, decided, visit, chosen, walk}
-use Rattle.walk.specs.Step.{Input, ticked, advance, step, Names, ran, idles, Says}
+use Rattle.walk.specs.Step.{Input, ticked, advance, marks-at, step, Names, ran, idles, Says}
 use Rattle.walk.specs.declared.Answer.{Answer}
 use Rattle.walk.specs.declared.Answer.the-variants.{Ran, IdleFor, Idle}
 use Rattle.walk.specs.declared.Walked.{Walked}
 use Rattle.walk.specs.Paid.{pays}
 use Rattle.walk.proofs.WalkLaws.{visit-keeps, walk-length, walk-on, walk-stop}
+use Rattle.walk.proofs.MarksLaws.{at-marks, step-by}
 use Rattle.walk.proofs.ReachedLaws.{reached-pays, marked-ends, runs-exactly}
 
 put-other : (s : State) (i k : ℕ) (p : Progress) → k ≢ i → progress (put s i p) k ≡ progress s k
@@ -117,7 +117,7 @@ pub below-chosen : (t : Table) (mode : Mode) (x : Input) (s : State) (i k : ℕ)
 unfolding step advance ticked
 below-chosen t mode x s i k n l =
     let r : State = release t (x .mask) s in
-    tick-same t _ r (walk-length (marks-of t) (x .bytes) (threads-at t mode (s .clock)) r) k (walk-below t (marks-of t) (x .bytes) i k 256 (threads-at t mode (s .clock)) r (at-falls-from t mode (s .clock)) n l)
+    tick-same t _ r (walk-length (marks-at t mode (s .clock)) (x .bytes) (threads-at t mode (s .clock)) r) k (walk-below t (marks-at t mode (s .clock)) (x .bytes) i k 256 (threads-at t mode (s .clock)) r (at-falls-from t mode (s .clock)) n l)
 
 -- A thread with a rest is reached.
 reached : (m : List Mark) (b i : ℕ) (s : State) → 0 < progress s i .rest → visit m b i s ≡ decided m b i (heard b i s)
@@ -167,8 +167,8 @@ pub idle-only : (t : Table) (mode : Mode) → Legal t → (x : Input) (s : State
     → 0 < progress (release t (x .mask) s) i .rest → (marked t i ≡ false) × (runs (getD (x .bytes) i 0) (progress (release t (x .mask) s) i) ≡ false)
 unfolding step advance ticked
 idle-only t mode g x s e i l v h =
-    let w = walk-idle t (marks-of t) (x .bytes) i 256 (threads-at t mode (s .clock)) _ (at-falls-from t mode (s .clock)) e (at-whole t mode g (s .clock) i l v) h in
-    (sym (set-exactly t i l) ∙ w .0, w .1)
+    let w = walk-idle t (marks-at t mode (s .clock)) (x .bytes) i 256 (threads-at t mode (s .clock)) _ (at-falls-from t mode (s .clock)) e (at-whole t mode g (s .clock) i l v) h in
+    (sym (at-marks t mode (s .clock) i l) ∙ w .0, w .1)
 
 -- What a reached thread has left once it has paid.
 module _ (m : List Mark) (b i : ℕ) (s : State) (l : i < length (s .threads)) where
@@ -237,8 +237,8 @@ pub chosen-first : (t : Table) (mode : Mode) → Legal t → (x : Input) (s : St
     → (marked t i ≡ false) × (runs (getD (x .bytes) i 0) (progress (release t (x .mask) s) i) ≡ false)
 unfolding step advance ticked
 chosen-first t mode g x s k i n l c v h =
-    let w = walk-first t (marks-of t) (x .bytes) i k 256 (threads-at t mode (s .clock)) _ (at-falls-from t mode (s .clock)) n l (at-whole t mode g (s .clock) i c v) h in
-    (sym (set-exactly t i c) ∙ w .0, w .1)
+    let w = walk-first t (marks-at t mode (s .clock)) (x .bytes) i k 256 (threads-at t mode (s .clock)) _ (at-falls-from t mode (s .clock)) n l (at-whole t mode g (s .clock) i c v) h in
+    (sym (at-marks t mode (s .clock) i c) ∙ w .0, w .1)
 
 -- Hearing does not change whether a thread runs: its byte is 1 or it does not run before and after.
 heard-runs : (b i : ℕ) (s : State) → runs b (progress (heard b i s) i) ≡ runs b (progress s i)
@@ -332,8 +332,8 @@ module _ (t : Table) (m : List Mark) (bs : List ℕ) where
 
 -- The chosen thread runs, or it is marked and waits.
 pub chosen-says : (t : Table) (mode : Mode) (x : Input) (s : State) → Says (marks-of t) (x .bytes) (release t (x .mask) s) (step t mode x s .answer)
-unfolding step advance ticked
-chosen-says t mode x s = walk-says t (marks-of t) (x .bytes) 256 (threads-at t mode (s .clock)) _ (at-falls-from t mode (s .clock))
+unfolding advance ticked
+chosen-says t mode x s = rw (step-by t mode x s) (walk-says t (marks-of t) (x .bytes) 256 (threads-at t mode (s .clock)) _ (at-falls-from t mode (s .clock)))
 
 -- Every thread with a rest, down to the chosen one or all where nobody is chosen, pays one.
 pub reached-pay-one : (t : Table) (mode : Mode) → Legal t → (x : Input) (s : State) → Fits t s → (i : ℕ) → i < t .count → walks t mode (s .clock) i ≡ true
@@ -343,9 +343,9 @@ unfolding pays step advance ticked
 reached-pay-one t mode g x s f i l v h n =
     let long : length (release t (x .mask) s .threads) ≡ 32 = release-length t (x .mask) s ∙ f .long in
     let few : t .count ≤ 32 = g .count-high in
-    let w = walk-leaves t (marks-of t) (x .bytes) (λ k r p. r .rest + 1 ≡ p .rest) (λ k z u v. visit-takes t (marks-of t) (x .bytes) (getD (x .bytes) k 0) k z u v) i 256 (threads-at t mode (s .clock))
+    let w = walk-leaves t (marks-at t mode (s .clock)) (x .bytes) (λ k r p. r .rest + 1 ≡ p .rest) (λ k z u v. visit-takes t (marks-at t mode (s .clock)) (x .bytes) (getD (x .bytes) k 0) k z u v) i 256 (threads-at t mode (s .clock))
     (release t (x .mask) s) (at-falls-from t mode (s .clock)) (rw long (omega arith)) (at-whole t mode g (s .clock) i l v) h n in
-    let k = tick-keeps t (λ p. p .rest) aged-rest (walk (marks-of t) (x .bytes) (threads-at t mode (s .clock)) (release t (x .mask) s) .state) i in
+    let k = tick-keeps t (λ p. p .rest) aged-rest (walk (marks-at t mode (s .clock)) (x .bytes) (threads-at t mode (s .clock)) (release t (x .mask) s) .state) i in
     omega (arith, w, k)
 
 -- What a finish does to a reached thread: 2 sets the mark, and nothing clears it.
@@ -366,6 +366,6 @@ unfolding step advance ticked
 reached-marks t mode g x s f i l v h n =
     let long : length (release t (x .mask) s .threads) ≡ 32 = release-length t (x .mask) s ∙ f .long in
     let few : t .count ≤ 32 = g .count-high in
-    tick-keeps t (λ p. p .finished) aged-finished (walk (marks-of t) (x .bytes) (threads-at t mode (s .clock)) (release t (x .mask) s) .state) i
-    ∙ walk-leaves t (marks-of t) (x .bytes) (λ k r p. r .finished ≡ or (p .finished) (eqb (getD (x .bytes) k 0) 2)) (λ k z u v. visit-marks (marks-of t) (getD (x .bytes) k 0) k z u v) i 256
+    tick-keeps t (λ p. p .finished) aged-finished (walk (marks-at t mode (s .clock)) (x .bytes) (threads-at t mode (s .clock)) (release t (x .mask) s) .state) i
+    ∙ walk-leaves t (marks-at t mode (s .clock)) (x .bytes) (λ k r p. r .finished ≡ or (p .finished) (eqb (getD (x .bytes) k 0) 2)) (λ k z u v. visit-marks (marks-at t mode (s .clock)) (getD (x .bytes) k 0) k z u v) i 256
     (threads-at t mode (s .clock)) (release t (x .mask) s) (at-falls-from t mode (s .clock)) (rw long (omega arith)) (at-whole t mode g (s .clock) i l v) h n

@@ -11,7 +11,6 @@ use lib.ListN.{length, getD, length-set}
 use lib.Dec.{eqb}
 use Rattle.basis.specs.Tests.{pick}
 use Rattle.basis.proofs.TestLaws.{both-ways, either, by-test}
-use Rattle.table.specs.Mark.{marks-of}
 use Rattle.table.specs.Threads.{thread}
 use Rattle.table.specs.declared.Table.{Table}
 use Rattle.table.specs.declared.Thread.{Thread}
@@ -24,8 +23,8 @@ use Rattle.state.specs.declared.State.{State}
 use Rattle.state.proofs.ReleaseLaws.{release-length}
 use Rattle.state.proofs.TickLaws.{tick-each, tick-same, aged-ran, aged-execution}
 use Rattle.frame.specs.Mode.{Mode, threads-at}
-use Rattle.walk.specs.Walk.{heard, runs, walked, decided, visit, chosen, walk}
-use Rattle.walk.specs.Step.{Input, ticked, advance, step, ran-by}
+use Rattle.walk.specs.Walk.{heard, runs, decided, visit, chosen, walk}
+use Rattle.walk.specs.Step.{Input, ticked, advance, marks-at, step, ran-by}
 use Rattle.walk.specs.declared.Answer.{Answer}
 use Rattle.walk.specs.declared.Answer.the-variants.{Ran, IdleFor, Idle}
 use Rattle.walk.specs.declared.Walked.{Walked}
@@ -133,10 +132,10 @@ module _ (R : Progress → ℕ → Progress → Type 0) (moves : Moves R) where
   unfolding step advance ticked
   step-moves t mode x s i l =
       let r : State = release t (x .mask) s in
-      let w : Walked = walk (marks-of t) (x .bytes) (threads-at t mode (s .clock)) r in
+      let w : Walked = walk (marks-at t mode (s .clock)) (x .bytes) (threads-at t mode (s .clock)) r in
       let n : ℕ = ran-by i (w .answer) in
       tick-each t (w .state) (λ k p. k ≡ i → R p n (progress r i)) (λ k p u h e. moves .ages (thread t k) p _ n (h e))
-      (record { at = λ k e. rw e (walk-moves (marks-of t) (x .bytes) i (threads-at t mode (s .clock)) r (rw (release-length t (x .mask) s) l)) }) .at i refl
+      (record { at = λ k e. rw e (walk-moves (marks-at t mode (s .clock)) (x .bytes) i (threads-at t mode (s .clock)) r (rw (release-length t (x .mask) s) l)) }) .at i refl
 
 -- The count of a thread goes up by one in a step exactly if it ran, ..
 pub step-counts : (t : Table) (mode : Mode) (x : Input) (s : State) → t .count ≤ 32 → Fits t s → (i : ℕ) → i < t .count
@@ -193,4 +192,4 @@ pub rest-stays : (t : Table) (mode : Mode) (x : Input) (s : State) (i : ℕ) →
 unfolding step advance ticked
 rest-stays t mode x s i z =
     let r : State = release t (x .mask) s in
-    tick-same t _ r (walk-length (marks-of t) (x .bytes) (threads-at t mode (s .clock)) r) i (walk-rests (marks-of t) (x .bytes) i (threads-at t mode (s .clock)) r z)
+    tick-same t _ r (walk-length (marks-at t mode (s .clock)) (x .bytes) (threads-at t mode (s .clock)) r) i (walk-rests (marks-at t mode (s .clock)) (x .bytes) i (threads-at t mode (s .clock)) r z)

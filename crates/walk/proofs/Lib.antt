@@ -1,4 +1,5 @@
 pub mod WalkLaws
+pub mod MarksLaws
 pub mod StepLaws
 pub mod HeardLaws
 pub mod PaidLaws

@@ -6,7 +6,6 @@ use mathlib.Core.Bool.{true, false, true≢false}
 use mathlib.Core.Logic.{inl, inr}
 use lib.ListN.{getD}
 use Rattle.basis.proofs.TestLaws.{both-ways}
-use Rattle.table.specs.Mark.{marks-of}
 use Rattle.table.specs.declared.Table.{Table}
 use Rattle.table.specs.declared.Mark.{Mark}
 use Rattle.state.specs.State.{progress}
@@ -18,7 +17,7 @@ use Rattle.order.specs.Order.{Stands}
 use Rattle.frame.specs.Mode.{Mode, threads-at, walks}
 use Rattle.frame.proofs.ModeLaws.{at-only}
 use Rattle.walk.specs.Walk.{visit, walk}
-use Rattle.walk.specs.Step.{Input, ticked, advance, step, Names}
+use Rattle.walk.specs.Step.{Input, ticked, advance, marks-at, step, Names}
 use Rattle.walk.specs.declared.Walked.{Walked}
 use Rattle.walk.proofs.WalkLaws.{walk-length}
 use Rattle.walk.proofs.ChoiceLaws.{nobody, visit-names, visit-others}
@@ -43,7 +42,7 @@ module _ (t : Table) (mode : Mode) (x : Input) (s : State) (i : ℕ) where
   -- The thread that an answer names is one that the mode has at that clock.
   pub chosen-walks : Names i (step t mode x s .answer) → walks t mode (s .clock) i ≡ true
   unfolding step advance ticked
-  chosen-walks n = at-only t mode (s .clock) i (walk-names (marks-of t) (x .bytes) i (threads-at t mode (s .clock)) (release t (x .mask) s) n)
+  chosen-walks n = at-only t mode (s .clock) i (walk-names (marks-at t mode (s .clock)) (x .bytes) i (threads-at t mode (s .clock)) (release t (x .mask) s) n)
 
   -- Every other thread is as the release left it, one tick later.
   pub outside-stays : walks t mode (s .clock) i ≡ false → progress (step t mode x s .state) i ≡ progress (tick t (release t (x .mask) s)) i
@@ -51,5 +50,5 @@ module _ (t : Table) (mode : Mode) (x : Input) (s : State) (i : ℕ) where
   outside-stays o =
       let r : State = release t (x .mask) s in
       let is : List ℕ = threads-at t mode (s .clock) in
-      tick-same t _ r (walk-length (marks-of t) (x .bytes) is r) i
-      (walk-out (marks-of t) (x .bytes) i is r (λ q. true≢false (sym (at-only t mode (s .clock) i q) ∙ o)))
+      tick-same t _ r (walk-length (marks-at t mode (s .clock)) (x .bytes) is r) i
+      (walk-out (marks-at t mode (s .clock)) (x .bytes) i is r (λ q. true≢false (sym (at-only t mode (s .clock) i q) ∙ o)))

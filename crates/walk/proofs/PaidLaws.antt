@@ -1,20 +1,17 @@
 -- A thread pays one at most in a step, since the order has it once, and W at most between two releases, since only a release
 -- raises a rest and a walk lowers it by what is paid.
-use Prim.Native.Nat.{ℕ, _+_, _-_, _≤_, _<_, zero-le}
-use mathlib.Core.Path.{_≡_}
+use Prim.Native.Nat.{ℕ, _+_, _≤_, _<_, zero-le}
 use mathlib.Core.List.{List, [], _∷_}
-use mathlib.Core.Bool.{false}
 use native.Mathlib.Omega.{arith}
 use native.Mathlib.Nat.{le-refl}
-use lib.ListN.{length, getD}
+use lib.ListN.{getD}
 use Rattle.basis.proofs.TestLaws.{both-ways}
 use Rattle.table.specs.Threads.{thread}
-use Rattle.table.specs.Mark.{marks-of}
 use Rattle.table.specs.declared.Table.{Table}
 use Rattle.table.specs.declared.Mark.{Mark}
 use Rattle.state.specs.State.{progress, Fits}
 use Rattle.state.specs.Release.{release}
-use Rattle.state.specs.Methods.{pay, finish, count, tick}
+use Rattle.state.specs.Methods.{pay, finish, count}
 use Rattle.state.specs.Given.{Each}
 use Rattle.state.specs.declared.Progress.{Progress}
 use Rattle.state.specs.declared.State.{State}
@@ -26,7 +23,7 @@ use Rattle.order.proofs.OrderLaws.{Falling-from}
 use Rattle.frame.specs.Mode.{Mode, threads-at}
 use Rattle.frame.proofs.ModeLaws.{at-falls-from, at-below}
 use Rattle.walk.specs.Walk.{heard, decided, visit, walk}
-use Rattle.walk.specs.Step.{Input, ticked, advance, step}
+use Rattle.walk.specs.Step.{Input, ticked, advance, marks-at, step}
 use Rattle.walk.specs.Paid.{pays, payments, Unreleased}
 use Rattle.walk.specs.declared.Walked.{Walked}
 use Rattle.walk.proofs.WalkLaws.{walk-each}
@@ -37,10 +34,10 @@ pub step-spends : (t : Table) (mode : Mode) (x : Input) (s : State) → Spent (r
 unfolding step advance ticked
 step-spends t mode x s =
     let r : State = release t (x .mask) s in
-    let w : Spent r (walk (marks-of t) (x .bytes) (threads-at t mode (s .clock)) r .state)
-    = walk-each (marks-of t) (t .count) _ (kept-spent (t .count) r) (λ i p. p .rest ≤ progress r i .rest) (λ i p h. h)
+    let w : Spent r (walk (marks-at t mode (s .clock)) (x .bytes) (threads-at t mode (s .clock)) r .state)
+    = walk-each (marks-at t mode (s .clock)) (t .count) _ (kept-spent (t .count) r) (λ i p. p .rest ≤ progress r i .rest) (λ i p h. h)
     (λ i p l h. h) (x .bytes) (threads-at t mode (s .clock)) r (at-below t mode (s .clock)) (record { at = λ i. le-refl _ }) in
-    record { at = λ i. rw (tick-keeps t (λ p. p .rest) aged-rest (walk (marks-of t) (x .bytes) (threads-at t mode (s .clock)) r .state) i) (w .at i) }
+    record { at = λ i. rw (tick-keeps t (λ p. p .rest) aged-rest (walk (marks-at t mode (s .clock)) (x .bytes) (threads-at t mode (s .clock)) r .state) i) (w .at i) }
 
 -- A walk down a falling list reaches each thread once.
 module _ (t : Table) (m : List Mark) (s : State) where
@@ -73,9 +70,9 @@ pub pays-once : (t : Table) (mode : Mode) (x : Input) (s : State) (i : ℕ) → 
 unfolding pays step advance ticked
 pays-once t mode x s i =
     let r : State = release t (x .mask) s in
-    let w : Each (λ i q. progress r i .rest ≤ q .rest + 1) (walk (marks-of t) (x .bytes) (threads-at t mode (s .clock)) r .state)
-    = walk-once t (marks-of t) r 256 (x .bytes) (threads-at t mode (s .clock)) r (at-falls-from t mode (s .clock)) (record { at = λ i. (omega arith, λ u. le-refl _) }) in
-    let k = tick-keeps t (λ p. p .rest) aged-rest (walk (marks-of t) (x .bytes) (threads-at t mode (s .clock)) r .state) i in
+    let w : Each (λ i q. progress r i .rest ≤ q .rest + 1) (walk (marks-at t mode (s .clock)) (x .bytes) (threads-at t mode (s .clock)) r .state)
+    = walk-once t (marks-at t mode (s .clock)) r 256 (x .bytes) (threads-at t mode (s .clock)) r (at-falls-from t mode (s .clock)) (record { at = λ i. (omega arith, λ u. le-refl _) }) in
+    let k = tick-keeps t (λ p. p .rest) aged-rest (walk (marks-at t mode (s .clock)) (x .bytes) (threads-at t mode (s .clock)) r .state) i in
     omega (arith, w .at i, k)
 
 -- While thread i is not released it pays no more than the rest it has.

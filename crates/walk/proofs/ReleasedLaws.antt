@@ -16,7 +16,6 @@ use Rattle.basis.specs.Spaced.{Spaced, happened}
 use Rattle.basis.proofs.TestLaws.{by-test, both-ways, either, and-both, and-of, refuted}
 use Rattle.basis.proofs.SpacedLaws.{spaced-apart, spaced-sooner, spaced-most, spaced-most-in}
 use Rattle.table.specs.Threads.{thread}
-use Rattle.table.specs.Mark.{marks-of}
 use Rattle.table.specs.Legal.{legal, Sized}
 use Rattle.table.specs.declared.Table.{Table}
 use Rattle.table.specs.declared.Thread.{Thread}
@@ -32,7 +31,7 @@ use Rattle.state.proofs.FitLaws.{usable, longest-event}
 use Rattle.frame.specs.Mode.{Mode, threads-at}
 use Rattle.frame.proofs.ModeLaws.{at-below}
 use Rattle.walk.specs.Walk.{walk}
-use Rattle.walk.specs.Step.{Input, ticked, advance, step}
+use Rattle.walk.specs.Step.{Input, ticked, advance, marks-at, step}
 use Rattle.walk.specs.Releases.{releases-in}
 use Rattle.walk.proofs.WalkLaws.{walk-each, walk-length}
 use Rattle.walk.proofs.StepLaws.{step-clock}
@@ -84,24 +83,24 @@ aged-waits th k p =
 
 module _ (t : Table) (mode : Mode) (x : Input) (s : State) where
   abbrev walked-on : State
-  walked-on = walk (marks-of t) (x .bytes) (threads-at t mode (s .clock)) (release t (x .mask) s) .state
+  walked-on = walk (marks-at t mode (s .clock)) (x .bytes) (threads-at t mode (s .clock)) (release t (x .mask) s) .state
 
   step-length : length (step t mode x s .state .threads) ≡ length (s .threads)
   unfolding step advance ticked
-  step-length = tick-length t _ ∙ walk-length (marks-of t) (x .bytes) (threads-at t mode (s .clock)) (release t (x .mask) s) ∙ release-length t (x .mask) s
+  step-length = tick-length t _ ∙ walk-length (marks-at t mode (s .clock)) (x .bytes) (threads-at t mode (s .clock)) (release t (x .mask) s) ∙ release-length t (x .mask) s
 
   walk-since : (i : ℕ) → progress walked-on i .since ≡ progress (release t (x .mask) s) i .since
   walk-since i =
       let r : State = release t (x .mask) s in
       let P : ℕ → Progress → Type 0 = λ j p. p .since ≡ progress r j .since in
-      walk-each (marks-of t) (t .count) P (record { pays = λ j p l h. h; finishes = λ j p l h. h }) P (λ j p h. h) (λ j p l h. h)
+      walk-each (marks-at t mode (s .clock)) (t .count) P (record { pays = λ j p l h. h; finishes = λ j p l h. h }) P (λ j p h. h) (λ j p l h. h)
       (x .bytes) (threads-at t mode (s .clock)) r (at-below t mode (s .clock)) (record { at = λ j. refl }) .at i
 
   step-ages : (i : ℕ) → i < t .count → i < length (s .threads) → progress (step t mode x s .state) i ≡ aged (thread t i) (progress walked-on i)
   unfolding step advance ticked tick
   step-ages i l k =
       each-at (λ j. aged (thread t j)) (t .count) walked-on i l
-      (rw (walk-length (marks-of t) (x .bytes) (threads-at t mode (s .clock)) (release t (x .mask) s), release-length t (x .mask) s) k)
+      (rw (walk-length (marks-at t mode (s .clock)) (x .bytes) (threads-at t mode (s .clock)) (release t (x .mask) s), release-length t (x .mask) s) k)
 
   -- So over a step they go up by one while an event thread has fewer than P, and stay from then on; a periodic thread's stay.
   step-since : (i n : ℕ) → i < t .count → i < length (s .threads) → aged (thread t i) (progress walked-on i) .since ≡ n

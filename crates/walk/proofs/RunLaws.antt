@@ -1,8 +1,7 @@
 -- A thread runs W - B steps at most between two releases, whatever it sends, and never with a rest of execution of 0.
-use Prim.Native.Nat.{ℕ, _+_, _-_, _≤_, _<_, zero-le}
+use Prim.Native.Nat.{ℕ, _-_, _≤_, _<_, zero-le}
 use mathlib.Core.Path.{_≡_, _∙_, subst}
 use mathlib.Core.List.{List, [], _∷_}
-use mathlib.Core.Bool.{false}
 use native.Mathlib.Omega.{arith}
 use lib.ListN.{length, getD}
 use Rattle.table.specs.Threads.{thread}
@@ -15,7 +14,7 @@ use Rattle.state.proofs.ReleaseLaws.{release-length, release-slows}
 use Rattle.state.proofs.TickLaws.{tick-length}
 use Rattle.state.proofs.FitLaws.{release-fits}
 use Rattle.frame.specs.Mode.{Mode, threads-at}
-use Rattle.walk.specs.Step.{Input, ticked, advance, step, Says}
+use Rattle.walk.specs.Step.{Input, ticked, advance, marks-at, step, Says}
 use Rattle.walk.specs.Paid.{runs-of, Unreleased}
 use Rattle.walk.specs.declared.Answer.{Answer}
 use Rattle.walk.specs.declared.Answer.the-variants.{Ran}
@@ -31,7 +30,7 @@ runs-rested t mode x s i e =
 
 step-length : (t : Table) (mode : Mode) (x : Input) (s : State) → length (step t mode x s .state .threads) ≡ length (s .threads)
 unfolding step advance ticked
-step-length t mode x s = tick-length t _ ∙ walk-length (marks-of t) (x .bytes) (threads-at t mode (s .clock)) (release t (x .mask) s) ∙ release-length t (x .mask) s
+step-length t mode x s = tick-length t _ ∙ walk-length (marks-at t mode (s .clock)) (x .bytes) (threads-at t mode (s .clock)) (release t (x .mask) s) ∙ release-length t (x .mask) s
 
 -- While thread i is not released it runs no more than the execution it has left.
 runs-left : (t : Table) (mode : Mode) (i : ℕ) (more : List Input) (s : State) → i < length (s .threads)

@@ -1,8 +1,8 @@
--- The walk asks of a mark whether it is set, and nothing else: whom a mark names changes no schedule.
+-- Whom a mark names changes no schedule.
 use Prim.Native.Nat.{ℕ, _-_}
-use mathlib.Core.Path.{_≡_, refl, sym, _∙_, ap}
-use mathlib.Core.List.{List, [], _∷_, _++_}
-use lib.ListN.{getD, replicate}
+use mathlib.Core.Path.{_≡_, sym, _∙_, ap}
+use mathlib.Core.List.{List, _++_}
+use lib.ListN.{replicate}
 use lib.Dec.{ltb}
 use borrow.Author.Tests.{ltb-true, ltb-false}
 use Rattle.basis.specs.Tests.{some}
@@ -16,18 +16,9 @@ use Rattle.table.proofs.MarkLaws.{marked-some, set-exactly}
 use Rattle.state.specs.Release.{release}
 use Rattle.state.specs.declared.State.{State}
 use Rattle.frame.specs.Mode.{Mode, threads-at}
-use Rattle.walk.specs.Walk.{decided, visit, walk}
+use Rattle.frame.proofs.ModeLaws.{at-below}
 use Rattle.walk.specs.Step.{Input, advance, step}
-
-module _ (m n : List Mark) (same : (i : ℕ) → is-set m i ≡ is-set n i) where
-  visit-sets : (b i : ℕ) (s : State) → visit m b i s ≡ visit n b i s
-  unfolding visit decided
-  visit-sets b i s = rw (same i)
-
-  pub walk-sets : (bs is : List ℕ) (s : State) → walk m bs is s ≡ walk n bs is s
-  unfolding walk
-  walk-sets bs [] s = refl
-  walk-sets bs (i ∷ is) s = rw (visit-sets (getD bs i 0) i s, walk-sets bs is)
+use Rattle.walk.proofs.MarksLaws.{walk-sets, step-by}
 
 -- A mark as it was before it named a thread: set where some thread of the table is barred and below, and with no name.
 abbrev bare : Table → ℕ → Mark
@@ -47,5 +38,6 @@ bare-same t i =
 
 -- The step by those marks is the step, of every table, from every state, for all events and bytes: the schedule stayed as it was.
 pub same-schedule : (t : Table) (mode : Mode) (x : Input) (s : State) → advance t (bare-marks t) (threads-at t mode (s .clock)) x s ≡ step t mode x s
-unfolding step advance
-same-schedule t mode x s = rw (walk-sets (bare-marks t) (marks-of t) (bare-same t) (x .bytes) (threads-at t mode (s .clock)) (release t (x .mask) s))
+unfolding advance
+same-schedule t mode x s =
+    rw (step-by t mode x s, walk-sets (t .count) (bare-marks t) (marks-of t) (λ i l. bare-same t i) (x .bytes) (threads-at t mode (s .clock)) (release t (x .mask) s) (at-below t mode (s .clock)))

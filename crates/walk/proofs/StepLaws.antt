@@ -1,6 +1,6 @@
 -- A step hands back a state that fits again, one clock on, and chooses only a thread that had a rest when the walk began: no
 -- visit raises a rest, so a thread reached with one had it before.
-use Prim.Native.Nat.{ℕ, _+_, _-_, _≤_, _<_}
+use Prim.Native.Nat.{ℕ, _+_, _≤_, _<_}
 use mathlib.Core.Path.{_≡_, refl, sym, _∙_, subst}
 use mathlib.Core.List.{List, [], _∷_}
 use mathlib.Core.Bool.{Bool, true, false}
@@ -10,7 +10,6 @@ use borrow.Author.Tests.{eqb-false, ne-eqb}
 use lib.ListN.{getD}
 use lib.Dec.{eqb}
 use Rattle.basis.proofs.TestLaws.{both-ways, either}
-use Rattle.table.specs.Mark.{marks-of}
 use Rattle.table.specs.declared.Table.{Table}
 use Rattle.table.specs.declared.Mark.{Mark}
 use Rattle.state.specs.State.{progress, last-clock, Place-fits, Fits}
@@ -25,7 +24,7 @@ use Rattle.order.specs.Order.{Below}
 use Rattle.frame.specs.Mode.{Mode, threads-at}
 use Rattle.frame.proofs.ModeLaws.{at-below}
 use Rattle.walk.specs.Walk.{decided, visit, chosen, walk}
-use Rattle.walk.specs.Step.{Input, ticked, advance, step, Rested}
+use Rattle.walk.specs.Step.{Input, ticked, advance, marks-at, step, Rested}
 use Rattle.walk.specs.declared.Answer.{Answer}
 use Rattle.walk.specs.declared.Answer.the-variants.{Ran, IdleFor, Idle}
 use Rattle.walk.specs.declared.Walked.{Walked}
@@ -78,18 +77,13 @@ module _ (t : Table) (m : List Mark) (is : List ℕ) (x : Input) (s : State) whe
       }
 
 module _ (t : Table) (mode : Mode) (x : Input) (s : State) where
-  -- The step goes by the whole table's marks, in both modes.
-  pub step-by : step t mode x s ≡ advance t (marks-of t) (threads-at t mode (s .clock)) x s
-  unfolding step
-  step-by = refl
-
   pub step-clock : step t mode x s .state .clock ≡ s .clock + 1
   unfolding step
-  step-clock = advance-clock t (marks-of t) (threads-at t mode (s .clock)) x s
+  step-clock = advance-clock t (marks-at t mode (s .clock)) (threads-at t mode (s .clock)) x s
 
   pub step-fits : Fits t s → s .clock < last-clock → Fits t (step t mode x s .state)
   unfolding step
-  step-fits f h = advance-fits t (marks-of t) (threads-at t mode (s .clock)) x s (at-below t mode (s .clock)) f h
+  step-fits f h = advance-fits t (marks-at t mode (s .clock)) (threads-at t mode (s .clock)) x s (at-below t mode (s .clock)) f h
 
 -- No thread has more rest than in s.
 abbrev pub Spent : State → State → Type 0
@@ -153,4 +147,4 @@ pub chosen-rested : (t : Table) (mode : Mode) (x : Input) (s : State) → Rested
 unfolding step advance ticked
 chosen-rested t mode x s =
     let r = release t (x .mask) s in
-    rested-of _ r (walk-rested (marks-of t) (x .bytes) r (threads-at t mode (s .clock)) r (record { at = λ i. le-refl _ }))
+    rested-of _ r (walk-rested (marks-at t mode (s .clock)) (x .bytes) r (threads-at t mode (s .clock)) r (record { at = λ i. le-refl _ }))

@@ -13,7 +13,8 @@ use Rattle.state.specs.State.{progress}
 use Rattle.state.specs.Release.{release}
 use Rattle.state.specs.Methods.{tick}
 use Rattle.state.specs.declared.State.{State}
-use Rattle.frame.specs.Mode.{Mode, threads-at}
+use Rattle.frame.specs.Frame.{domain-at}
+use Rattle.frame.specs.Mode.{Mode, unframed, framed, threads-at}
 use Rattle.walk.specs.Walk.{runs, walked, walk}
 use Rattle.walk.specs.declared.Answer.{Answer}
 use Rattle.walk.specs.declared.Answer.the-variants.{Ran, IdleFor, Idle}
@@ -36,9 +37,18 @@ ticked t w = walked (w .answer) (tick t (w .state))
 unfoldable pub advance : Table → List Mark → List ℕ → Input → State → Walked
 advance t m is x s = ticked t (walk m (x .bytes) is (release t (x .mask) s))
 
--- One step: the walk goes from the highest priority down, over the threads of its mode at that clock, with the whole table's marks.
+-- The marks in a window of domain d: the whole table's, for a thread of another window may be barred from what all of this one may learn.
+abbrev pub marks-in : Table → ℕ → List Mark
+marks-in t d = marks-of t
+
+-- The marks that the walk goes by at the clock c.
+unfoldable pub marks-at : Table → Mode → ℕ → List Mark
+marks-at t unframed c = marks-of t
+marks-at t (framed f) c = marks-in t (domain-at f c)
+
+-- One step: the walk goes from the highest priority down, over the threads and with the marks of its mode at that clock.
 unfoldable pub step : Table → Mode → Input → State → Walked
-step t mode x s = advance t (marks-of t) (threads-at t mode (s .clock)) x s
+step t mode x s = advance t (marks-at t mode (s .clock)) (threads-at t mode (s .clock)) x s
 
 -- The thread that an answer names has a rest above 0.
 pub record Rested (a : Answer) (s : State) : Type 0 where

@@ -7,7 +7,7 @@ ghost use Rattle.state.specs.State.{last-clock, Fits};
 ghost use Rattle.state.specs.Given.{Usable};
 ghost use Rattle.order.specs.Order.{order, ranked, Below};
 ghost use Rattle.order.specs.Open.{open-to};
-ghost use Rattle.walk.specs.Step.{advance};
+ghost use Rattle.walk.specs.Step.{advance, marks-in};
 use order::Ranks;
 use order::open_to;
 use order::rank;
@@ -49,10 +49,10 @@ pub fn prepare(t: Table) -> Prepared
     Prepared { order, marks }
 }
 
-// The same for a window of domain d: the walk goes over the threads that are open to d, with the whole table's marks.
+// The same for a window of domain d: the walk goes over the threads that are open to d, with the window's marks.
 pub fn narrow(t: Table, p: Prepared, d: u8) -> Prepared
-    requires { ⌜ (t .count ≤ 32) × (p .order .count ≤ 32) × Below (t .count) (ranked (p .order)) ⌝ }
-    ensures { λ r. ⌜ (r .order .count ≤ 32) × (ranked (r .order) ≡ open-to t d (ranked (p .order))) × (r .marks ≡ p .marks) ⌝ }
+    requires { ⌜ (t .count ≤ 32) × (p .order .count ≤ 32) × Below (t .count) (ranked (p .order)) × (p .marks ≡ marks-of t) ⌝ }
+    ensures { λ r. ⌜ (r .order .count ≤ 32) × (ranked (r .order) ≡ open-to t d (ranked (p .order))) × (r .marks ≡ marks-in t d) ⌝ }
 {
     let all = p.order;
     let marks = p.marks;

@@ -9,7 +9,7 @@ use Rattle.state.specs.Given.{Usable}
 use Rattle.state.proofs.FitLaws.{usable}
 use Rattle.order.proofs.OrderLaws.{order-below}
 use Rattle.frame.specs.Mode.{mode-ok, threads-at}
-use Rattle.walk.specs.Step.{step}
+use Rattle.walk.specs.Step.{marks-at, step}
 use Rattle.scheduler.specs.Taken.{taken}
 use borrow.Author.Needs.{needs}
 use Rattle.scheduler.proofs.step.Statement.{statement}
@@ -41,11 +41,11 @@ prepare-requires c κs = ready c .few
 
 step-over-requires : tie.Need-step-over-requires
 step-over-requires c κs =
-    (ready (c .before), (c .prepare .ensures .0, rw (c .prepare .ensures .1) (order-below (c .before .before .before .before .args .t)), c .prepare .ensures .2))
+    (ready (c .before), (c .prepare .ensures .0, rw (c .prepare .ensures .1) (order-below (c .before .before .before .before .args .t))))
 
 returns-2 : tie.Need-returns-2
-unfolding taken step mode-ok threads-at pick
-returns-2 c = rw (lawful (c .before .before), ← c .before .prepare .ensures .1) (c .step-over .ensures)
+unfolding taken step marks-at mode-ok threads-at pick
+returns-2 c = rw (lawful (c .before .before), ← c .before .prepare .ensures .1, ← c .before .prepare .ensures .2) (c .step-over .ensures)
 
 pub step-spec : {M : Type 1} → statement M
 step-spec = tie.close (tie.spec legal-requires refuse-requires returns prepare-requires step-over-requires returns-2)

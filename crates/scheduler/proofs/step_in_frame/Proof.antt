@@ -13,7 +13,7 @@ use Rattle.order.proofs.OpenLaws.{open-below}
 use Rattle.frame.specs.Frame.{frame-ok}
 use Rattle.frame.specs.Mode.{mode-ok, threads-at}
 use Rattle.frame.proofs.FrameLaws.{ok-framed, framed-timed}
-use Rattle.walk.specs.Step.{step}
+use Rattle.walk.specs.Step.{marks-at, step}
 use Rattle.scheduler.specs.Taken.{taken}
 use borrow.Author.Needs.{needs}
 use Rattle.scheduler.proofs.step_in_frame.Statement.{statement}
@@ -61,18 +61,18 @@ domain-at-requires c κs = framed-timed _ _ (ok-framed _ _ (passing (c .before))
 
 narrow-requires : tie.Need-narrow-requires
 narrow-requires c κs =
-    (ready (c .before .before .before .before) .few, c .before .prepare .ensures .0, rw (c .before .prepare .ensures .1) (order-below (c .before .before .before .before .before .before .before .args .t)))
+    (ready (c .before .before .before .before) .few, c .before .prepare .ensures .0, rw (c .before .prepare .ensures .1) (order-below (c .before .before .before .before .before .before .before .args .t)), c .before .prepare .ensures .2)
 
 step-over-requires : tie.Need-step-over-requires
 step-over-requires c κs =
     let t = c .before .before .before .before .before .before .before .before .args .t in
     let p = c .before .before .prepare .ensures in
-    (ready (c .before .before .before .before .before), (c .narrow .ensures .0, rw (c .narrow .ensures .1, p .1) (open-below t _ (t .count) (order t) (order-below t)), c .narrow .ensures .2 ∙ p .2))
+    (ready (c .before .before .before .before .before), (c .narrow .ensures .0, rw (c .narrow .ensures .1, p .1) (open-below t _ (t .count) (order t) (order-below t))))
 
 returns-3 : tie.Need-returns-3
-unfolding taken step mode-ok threads-at pick
+unfolding taken step marks-at mode-ok threads-at pick
 returns-3 c =
-    rw (lawful (c .before .before .before .before .before .before), passing (c .before .before .before .before), ← c .before .before .domain-at .ensures, ← c .before .before .before .prepare .ensures .1, ← c .before .narrow .ensures .1)
+    rw (lawful (c .before .before .before .before .before .before), passing (c .before .before .before .before), ← c .before .before .domain-at .ensures, ← c .before .before .before .prepare .ensures .1, ← c .before .narrow .ensures .1, ← c .before .narrow .ensures .2)
     (c .step-over .ensures)
 
 pub step-in-frame-spec : {M : Type 1} → statement M

@@ -6,10 +6,7 @@ use borrow.Author.Tests.{not-true, not-false, eq-eqb, ne-eqb, lt-ltb, le-ltb}
 use lib.ListN.{length}
 use Rattle.basis.specs.Tests.{pick}
 use Rattle.basis.proofs.ListLaws.{long-of}
-use Rattle.table.specs.Mark.{marks-of}
 use Rattle.state.specs.State.{fits, Fits}
-use Rattle.order.specs.Order.{ranked}
-use Rattle.walk.specs.Step.{advance}
 use Rattle.scheduler.specs.Taken.{mask-ok, taken-then}
 use Rattle.state.proofs.FitLaws.{fits-sound}
 use borrow.Author.Needs.{needs}
@@ -25,11 +22,6 @@ fitting c = sym (c .before .fits2 .ensures) ∙ not-false _ (c .if1 .left)
 
 masked : (c : tie.Else3) → mask-ok (c .before .before .before .before .before .before .before .args .t) (c .before .before .before .before .before .before .before .args .mask) ≡ true
 masked c = sym (c .before .mask-passes .ensures) ∙ not-false _ (c .if3 .left)
-
--- The prepared step goes by the table's marks.
-stepped : (c : tie.After-advance) → c .advance .result
-    ≡ advance (c .before .before .before .before .before .before .before .before .before .before .args .t) (marks-of (c .before .before .before .before .before .before .before .before .before .before .args .t)) (ranked (c .before .before .before .before .before .before .before .before .before .before .args .p .order)) (record { mask = c .before .before .before .before .before .before .before .before .before .before .args .mask; bytes = c .before .before .before .before .before .before .before .before .before .before .args .bytes .now }) (c .before .before .before .before .before .before .before .before .before .before .args .s)
-stepped c = rw (← c .before .before .before .before .before .before .before .before .before .before .pre .1 .2) (c .advance .ensures)
 
 fits-requires : tie.Need-fits-requires
 fits-requires c κs = search needs
@@ -81,7 +73,7 @@ advance-requires c κs =
 returns-5 : tie.Need-returns-5
 unfolding taken-then pick
 returns-5 c =
-    rw (fitting (c .before .before .before .before .before .before .before .before), eq-eqb _ _ (c .before .before .before .before .before .before .if2 .left), masked (c .before .before .before .before), lt-ltb _ _ (c .before .before .if4 .left), ← stepped (c .before))
+    rw (fitting (c .before .before .before .before .before .before .before .before), eq-eqb _ _ (c .before .before .before .before .before .before .if2 .left), masked (c .before .before .before .before), lt-ltb _ _ (c .before .before .if4 .left), ← c .before .advance .ensures)
 
 pub step-over-spec : {M : Type 1} → statement M
 step-over-spec =
