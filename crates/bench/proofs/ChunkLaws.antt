@@ -2,16 +2,13 @@
 -- state that the first ones left.
 use Prim.Native.Nat.{ℕ, zero, suc, _+_, _-_, _*_, _≤_, _<_}
 use mathlib.Core.Path.{_≡_, refl, ap, sym, _∙_, subst}
-use mathlib.Core.List.{List, [], _∷_, _++_, append-nil, append-assoc}
+use mathlib.Core.List.{List, [], _++_, append-nil, append-assoc}
 use native.Mathlib.Omega.{arith}
 use native.Mathlib.Nat.{suc-mul, add-mul, add-suc, add-zero, le-antisymm, le-of-mul-le-mul-right}
-use lib.ListN.{length, take, drop, length-append, length-drop}
+use lib.ListN.{length, drop, length-append, length-drop}
 use lib.Seq.{take-append-le, drop-append-le, drop-append-add}
-use lib.Dec.{leb}
-use borrow.Author.Tests.{leb-true, leb-false}
 use Rattle.basis.specs.Ceil.{ceil}
 use Rattle.basis.proofs.CeilLaws.{ceil-least, ceil-covers}
-use Rattle.basis.proofs.TestLaws.{by-test}
 use Rattle.table.specs.declared.Table.{Table}
 use Rattle.state.specs.declared.State.{State}
 use Rattle.bench.specs.Text.{Run, play, bytes-of, played, played-all, from}
@@ -24,7 +21,7 @@ front-step xs ys n k h =
     rw (drop-append-le (k * n) xs ys (omega arith)) (take-append-le n (drop (k * n) xs) ys (omega (arith, length-drop (k * n) xs)))
 
 module _ (t : Table) (xs ys : List ℕ) where
-  front-played : (r : Run) (k : ℕ) → k * t .count ≤ length xs → played t (xs ++ ys) r k ≡ played t xs r k
+  pub front-played : (r : Run) (k : ℕ) → k * t .count ≤ length xs → played t (xs ++ ys) r k ≡ played t xs r k
   front-played r zero h = played-none t (xs ++ ys) r ∙ sym (played-none t xs r)
   front-played r (suc k) h =
       let e = suc-mul k (t .count) in
@@ -38,7 +35,7 @@ module _ (t : Table) (xs ys : List ℕ) where
       rw (add-suc m k, played-suc t (xs ++ ys) r (m + k), played-suc t ys (played t xs r m) k, p, drop-append-add xs ys (k * t .count), rest-played r m k e)
 
 -- As many steps as whole steps were read first, and as many as the rest asks for.
-ceil-whole : (m b l : ℕ) → 0 < b → ceil (m * b + l) b ≡ m + ceil l b
+pub ceil-whole : (m b l : ℕ) → 0 < b → ceil (m * b + l) b ≡ m + ceil l b
 ceil-whole m b l some =
     let c = ceil (m * b + l) b in
     let below : c ≤ m + ceil l b =
@@ -49,7 +46,7 @@ ceil-whole m b l some =
     let e : c * b ≡ m * b + (c - m) * b = ap (λ (x : ℕ). x * b) split ∙ add-mul m (c - m) b in
     le-antisymm below (omega (arith, ceil-least l b (c - m) some (omega arith)))
 
-ceil-none : (b : ℕ) → 0 < b → ceil 0 b ≡ 0
+pub ceil-none : (b : ℕ) → 0 < b → ceil 0 b ≡ 0
 ceil-none b some = let h : ceil 0 b ≤ 0 = ceil-least 0 b 0 some (omega arith) in omega arith
 
 played-adds : (t : Table) (bs : List ℕ) (r : Run) (k : ℕ) →

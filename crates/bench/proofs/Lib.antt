@@ -1,3 +1,5 @@
 pub mod PlayLaws
-pub mod InputLaws
 pub mod ChunkLaws
+pub mod BlockLaws
+pub mod CarryLaws
+pub mod TurnLaws

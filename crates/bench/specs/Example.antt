@@ -1,13 +1,14 @@
--- Example E of document 01, from its bytes to the text it prints; and E with an event thread.
+-- Example E of document 01, from its bytes to the text it prints; E with an event thread; and E at the last clock.
 use Prim.Native.Nat.{ℕ}
 use mathlib.Core.Path.{_≡_, refl}
 use mathlib.Core.List.{List, [], _∷_, _++_}
 use Rattle.basis.specs.Ceil.{ceil}
-use Rattle.example.specs.Example.{example-bytes}
+use Rattle.example.specs.Example.{example, example-bytes}
+use Rattle.state.specs.State.{fresh}
 use Rattle.reader.specs.Opened.{opened as reader-opened}
 use Rattle.scheduler.specs.Opened.{opened as steps-opened}
 use Rattle.report.specs.Opened.{opened as report-opened}
-use Rattle.bench.specs.Text.{with-step, play, played, last-line, run-text, judged-text, bench-text}
+use Rattle.bench.specs.Text.{with-step, play, played, played-all, from, last-line, closed, run-text, judged-text, bench-text}
 
 -- Thread 0 sends 1, 0, 0, 2 and then 1 six times, thread 1 sends 1 ten times.
 abbrev pub step-bytes : List ℕ
@@ -61,3 +62,23 @@ event-text =
 pub event-printed : bench-text event-bytes step-bytes ≡ event-text
 unfolding reader-opened steps-opened report-opened ceil with-step play played last-line run-text judged-text
 event-printed = refl
+
+-- E from a clock short of the last: lines up to it, and then 14, though more steps come; a step short of bytes there is 13.
+abbrev late : ℕ → List ℕ → List ℕ
+late c bs = closed (played-all example bs (from (record { clock = c; threads = fresh example .threads })))
+
+-- 999999999 --
+abbrev last-step : List ℕ
+last-step = 0x39 ∷ 0x39 ∷ 0x39 ∷ 0x39 ∷ 0x39 ∷ 0x39 ∷ 0x39 ∷ 0x39 ∷ 0x39 ∷ 0x20 ∷ 0x2D ∷ 0x2D ∷ 0x0A ∷ []
+
+-- refused 1? 1000000000
+abbrev refused-last : ℕ → List ℕ
+refused-last digit =
+    0x72 ∷ 0x65 ∷ 0x66 ∷ 0x75 ∷ 0x73 ∷ 0x65 ∷ 0x64 ∷ 0x20 ∷ 0x31 ∷ digit ∷ 0x20
+    ∷ 0x31 ∷ 0x30 ∷ 0x30 ∷ 0x30 ∷ 0x30 ∷ 0x30 ∷ 0x30 ∷ 0x30 ∷ 0x30 ∷ 0x30 ∷ 0x0A ∷ []
+
+pub last-printed :
+    late 999999999 (1 ∷ 1 ∷ 1 ∷ 1 ∷ 1 ∷ 1 ∷ 1 ∷ []) ∷ late 999999999 (1 ∷ 1 ∷ 1 ∷ []) ∷ []
+    ≡ (last-step ++ refused-last 0x34) ∷ (last-step ++ refused-last 0x33) ∷ []
+unfolding reader-opened steps-opened report-opened ceil with-step play played last-line
+last-printed = refl

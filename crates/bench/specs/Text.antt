@@ -54,7 +54,7 @@ from s = record { lines = []; state = s; why = 0 }
 unfoldable pub last-line : ℕ → ℕ → List ℕ
 last-line why clock = pick (eqb why 0) (end-line clock) (refused-line why clock)
 
-abbrev closed : Run → List ℕ
+abbrev pub closed : Run → List ℕ
 closed r = r .lines ++ last-line (r .why) (r .state .clock)
 
 -- `threads N`, a line a step, the last line.

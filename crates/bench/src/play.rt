@@ -1,18 +1,13 @@
-// Playing a run of steps, and printing a line for each into a buffer.
-ghost use Prim.Native.Nat.{_+_, _*_, _≤_, _<_, min};
+// Playing a run of steps as one block, and printing a line for each into a buffer.
+ghost use Prim.Native.Nat.{_+_, _≤_, _<_};
 ghost use mathlib.Core.Path.{_≡_};
 ghost use lib.ListN.{length};
-ghost use Rattle.writer.specs.Buffer.{Put};
-ghost use Rattle.report.specs.Lines.{step-line};
-ghost use Rattle.bench.specs.Text.{play as the-play, played-all, from};
-ghost use Rattle.bench.specs.Playing.{run-of, Plays, Roomy};
-use basis::rounded_up;
-use report::Printing;
-use report::print_step;
-use scheduler::Answer;
-use scheduler::Outcome;
+ghost use Rattle.table.specs.Legal.{Legal};
+ghost use Rattle.state.specs.State.{Fits};
+ghost use Rattle.bench.specs.Text.{played-all, from};
+ghost use Rattle.bench.specs.Playing.{Plays, Roomy, refusal-behind};
+use report::print_trace;
 use scheduler::State;
-use scheduler::step;
 use table::Table;
 
 // After some steps: the state, the number of the refusal that ended the run (0: none) and the place after the lines.
@@ -22,73 +17,40 @@ pub struct Played {
     pub next: usize,
 }
 
-fn put_step(out: &mut [u8], at: usize, clock: u32, answer: Answer) -> usize
-    requires { ⌜ at + 16 ≤ length (now out) ⌝ }
-    ensures { λ r. ⌜ (r ≤ at + 16) × Put (now (out .entry)) at (now (out .exit)) r (step-line clock answer) ⌝ }
+// How many of so many steps there are up to the last clock.
+fn cut(clock: u32, steps: usize) -> usize
+    requires { ⌜ clock ≤ 1000000000 ⌝ }
+    ensures { λ r. ⌜ (r ≤ steps) × (clock + r ≤ 1000000000) × (r < steps → clock + r ≡ 1000000000) ⌝ }
 {
-    let p = print_step(out, at, clock, answer);
-    match p {
-        Printing::Printed(next) => next,
-        Printing::NoRoom => at,
-    }
+    let left = (1000000000 - clock) as usize;
+    if left < steps { left } else { steps }
 }
 
-// One step more, with an empty mask of events, unless the run was refused before.
-fn play_on(t: Table, p: Played, bytes: &[u8], out: &mut [u8]) -> Played
-    requires { ⌜ p .next + 16 ≤ length (now out) ⌝ }
-    ensures { λ r. ⌜ (r .next ≤ p .next + 16) × Plays (now (out .entry)) p (now (out .exit)) r (the-play t (now (bytes .entry)) (run-of p)) ⌝ }
+fn refusal(n: usize, whole: usize, rest: usize) -> u8
+    ensures { λ r. ⌜ r ≡ refusal-behind n whole rest ⌝ }
 {
-    if p.why != 0 {
-        return p;
+    if n < whole {
+        return 14;
     }
-    let s = p.state;
-    let at = p.next;
-    let r = step(t, s, 0, bytes);
-    let after = r.state;
-    let o = r.outcome;
-    match o {
-        Outcome::Chose(answer) => {
-            let next = put_step(out, at, s.clock, answer);
-            Played {
-                state: after,
-                why: 0,
-                next,
-            }
-        }
-        Outcome::Refused(why) => Played {
-            state: after,
-            why,
-            next: at,
-        },
-    }
+    if rest == 0 { 0 } else { 13 }
 }
 
-// The end of the bytes of a step that start at i: the last step may be short.
-fn step_end(i: usize, size: usize, len: usize) -> usize
-    requires { ⌜ i ≤ len ⌝ }
-    ensures { λ r. ⌜ r ≡ min (i + size) len ⌝ }
-{
-    if size <= len - i { i + size } else { len }
-}
-
-// All steps of these bytes, with their lines from the start of the buffer on.
+// All steps of these bytes, with their lines from the start of the buffer on: one block up to the last clock, in which each step has an
+// empty mask of events. None refuses it; what stands behind it may be refused.
 pub fn play(t: Table, s: State, bytes: &[u8], out: &mut [u8]) -> Played
-    requires { ⌜ Roomy t (now bytes) (now out) ⌝ }
-    ensures { λ r. ⌜ (r .next ≤ length (now (out .exit))) × Plays (now (out .entry)) (record { state = s; why = 0; next = 0 }) (now (out .exit)) r (played-all t (now (bytes .entry)) (from s)) ⌝ }
+    requires { ⌜ Legal t × Fits t s × Roomy t (now bytes) (now out) ⌝ }
+    ensures { λ r. ⌜ (r .next ≤ length (now (out .exit))) × Fits t (r .state) × Plays (now (out .entry)) (record { state = s; why = 0; next = 0 }) (now (out .exit)) r (played-all t (now (bytes .entry)) (from s)) ⌝ }
 {
-    let size = t.count as usize;
+    let count = t.count as usize;
     let len = bytes.len();
-    let steps = rounded_up(len as u32, t.count as u32);
-    let mut p = Played {
-        state: s,
-        why: 0,
-        next: 0,
-    };
-    let mut i = 0;
-    for _ in 0..steps {
-        let end = step_end(i, size, len);
-        p = play_on(t, p, &bytes[i..end], out);
-        i = end;
-    }
-    p
+    let whole = len / count;
+    let n = cut(s.clock, whole);
+    let end = n * count;
+    let masks = [0u32; 4000];
+    let mut trace = [0u8; 4000];
+    let r = block::run(t, s, &masks[..n], &bytes[..end], &mut trace);
+    let next = print_trace(out, 0, s.clock, &trace[..n]);
+    let state = r.state;
+    let why = refusal(n, whole, len % count);
+    Played { state, why, next }
 }

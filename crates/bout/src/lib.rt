@@ -1,7 +1,9 @@
 // Both schedulers, the proved one and crate rival, on one input: the kind of what they say where they agree, and WRONG where not.
+mod blocks;
 mod play;
 mod views;
 
+pub use blocks::steps_in_block;
 pub use play::Played;
 pub use play::event;
 pub use play::fresh;
@@ -48,3 +50,12 @@ pub const RELEASED: u32 = 49;
 pub const LOST: u32 = 50;
 
 pub const NO_EVENT: u32 = 51;
+
+pub const BLOCK: u32 = 7;
+
+pub const BLOCK_IN_FRAME: u32 = 8;
+
+pub const NO_STEPS: u32 = 9;
+
+// A block refused with a number, 11 to 19, is counted so many places on from here.
+pub const BLOCK_REFUSED: u32 = 41;

@@ -4,6 +4,7 @@ use dice::any32;
 use dice::below;
 use dice::below8;
 use dice::part;
+use dice::seldom;
 use table::Table;
 
 // In a mood of 0 few threads run, in one of 7 nearly all.
@@ -53,4 +54,25 @@ pub fn mask(seed: u64, t: Table) -> u32 {
         1 => any32(seed, 22),
         _ => mask,
     }
+}
+
+// The bytes of a block: as many as eight steps of any table ask for, and more.
+pub fn block_bytes(seed: u64) -> [u8; 300] {
+    let mood = below(seed, 15, 8);
+    let mut bytes = [0u8; 300];
+    for i in 0..300u32 {
+        bytes[i as usize] = byte(part(seed, i), mood);
+    }
+    bytes
+}
+
+// The masks of a block: mostly events of event threads only in all of them.
+pub fn block_masks(seed: u64, t: Table) -> [u32; 8] {
+    let good = !seldom(seed, 16, 8);
+    let mut masks = [0u32; 8];
+    for k in 0..8u32 {
+        let own = part(seed, k);
+        masks[k as usize] = if good { events(own, t) } else { mask(own, t) };
+    }
+    masks
 }

@@ -6,6 +6,8 @@ mod tables;
 
 pub use frames::any_frame;
 pub use frames::frame;
+pub use inputs::block_bytes;
+pub use inputs::block_masks;
 pub use inputs::bytes;
 pub use inputs::mask;
 pub use states::state;

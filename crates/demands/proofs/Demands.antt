@@ -37,6 +37,11 @@ use Rattle.scheduler.proofs.CallLaws.{calls-steps}
 use Rattle.scheduler.proofs.HeardLaws.{outside-unheard}
 use Rattle.sight.proofs.SightLaws.{visible-exactly, seen-at, hidden-at}
 use Rattle.sight.proofs.NumberLaws.{view-number-exactly, state-number-exactly, refused-zeros}
+use Rattle.block.proofs.RecordLaws.{recorded-front, record-refused, record-calls, record-state, record-trace, record-next, two-records}
+use Rattle.block.proofs.NumberLaws.{whole-exactly, masks-exactly, block-number-exactly, record-same-refusal}
+use Rattle.block_isolation.proofs.ByteLaws.{byte-answer}
+use Rattle.block_isolation.proofs.ShownLaws.{number-shown, threads-told, trace-shown, refused-shown}
+use Rattle.block_isolation.proofs.Isolation.{demand-3-blocks}
 use Rattle.isolation.proofs.Isolation.{telling-chosen, telling-refused, demand-3, state-always-shown}
 use Rattle.host.proofs.HostLaws.{mark-refused-exactly, bound-refused-exactly}
 use Rattle.admission.proofs.DemandLaws.{demand-exactly}
@@ -91,6 +96,12 @@ demand-1-holds = record {
   nothing-written = refused-stays;
   zeros-shown = refused-zeros;
   no-byte-refuses = same-refusal;
+  block-numbered = block-number-exactly;
+  block-front = recorded-front;
+  lengths-exactly = whole-exactly;
+  masks-exactly = masks-exactly;
+  block-back = record-refused;
+  no-byte-refuses-block = record-same-refusal;
 }
 
 pub demand-2-holds : Demand-2
@@ -105,6 +116,11 @@ demand-2-holds = record {
   at-marks = at-marks;
   call-steps = λ t mode ok o x e m s f l. taken-steps t mode x s ok o (fits-complete t s f) e m l;
   run-steps = calls-steps;
+  block-calls = record-calls;
+  block-state = record-state;
+  block-trace = record-trace;
+  block-next = record-next;
+  two-blocks = two-records;
   fresh-legal = fresh-legal;
   fresh-clock = fresh-clock;
   fresh-periodic = fresh-periodic;
@@ -170,4 +186,10 @@ demand-3-holds = record {
   visible-exactly = visible-exactly;
   seen-at = seen-at;
   hidden-at = hidden-at;
+  blocks-isolated = λ t mode g. demand-3-blocks t mode (legal-complete t g) (g .sized);
+  bytes-answer = λ t g d. byte-answer t d (g .count-high);
+  block-numbers = number-shown;
+  block-traces = trace-shown;
+  block-records = refused-shown;
+  block-threads = threads-told;
 }

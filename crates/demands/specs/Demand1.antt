@@ -1,12 +1,12 @@
 -- Demand 1, whole: damaged tables, stale states and short step lists are all taken; every call answers, or refuses with the one number
 -- that the rules give; a refusal hands the state back as it came and writes nothing; no thread's byte brings a refusal about. That each
 -- call ends and never traps is what the proof of each operation says, none of which has a `requires`.
-use Prim.Native.Nat.{ℕ, _^_, _≤_, _<_}
+use Prim.Native.Nat.{ℕ, _*_, _^_, _≤_, _<_}
 use mathlib.Core.Path.{_≡_}
 use mathlib.Core.List.{List, []}
 use mathlib.Core.Logic.{_≢_, _↔_}
 use mathlib.Core.Bool.{true, false}
-use lib.ListN.{length, replicate}
+use lib.ListN.{length, getD, replicate}
 use Rattle.basis.specs.Told.{Told, answered, refused}
 use Rattle.table.specs.Legal.{legal, Sized, Legal}
 use Rattle.table.specs.Mark.{marking}
@@ -18,7 +18,6 @@ use Rattle.writer.specs.Writer.{writing, written}
 use Rattle.writer.specs.Numbered.{Write-numbered}
 use Rattle.codec.specs.Judging.{Judgment}
 use Rattle.state.specs.State.{no-progress, longest-since, fits, Fits, no-state, starting, fresh-given}
-use Rattle.state.specs.declared.Progress.{Progress}
 use Rattle.state.specs.declared.State.{State}
 use Rattle.frame.specs.Frame.{Framed}
 use Rattle.frame.specs.Mode.{Mode, unframed, framed, mode-ok}
@@ -27,6 +26,8 @@ use Rattle.walk.specs.declared.Answer.{Answer}
 use Rattle.walk.specs.Step.{Input}
 use Rattle.scheduler.specs.Taken.{taken, mask-ok}
 use Rattle.scheduler.specs.Numbered.{Only-events, Numbered}
+use Rattle.block.specs.Block.{whole, masks-ok, block, recorded}
+use Rattle.block.specs.Numbered.{Block-numbered}
 use Rattle.sight.specs.Shown.{showing, showing-state, threads-shown}
 use Rattle.sight.specs.Numbered.{View-numbered, State-numbered}
 use Rattle.host.specs.Host.{refusal, thread-mark, thread-bound, Refuses}
@@ -71,3 +72,15 @@ pub record Demand-1 : Type 0 where
   -- No thread's step byte brings a refusal about: with the same mask and as many bytes, whatever they are, the number is the same.
   pub no-byte-refuses : (t : Table) (mode : Mode) (x y : Input) (s : State) → x .mask ≡ y .mask → length (x .bytes) ≡ length (y .bytes)
       → taken t mode x s .told .number ≡ taken t mode y s .told .number
+  -- Blocks: a call into a record has its number exactly when its row says, and one that is lent a part is a call at the part's front.
+  pub block-numbered : (t : Table) (mode : Mode) (masks bytes : List ℕ) (s : State) (out : List ℕ) (at n : ℕ)
+      → (recorded t mode masks bytes s out at .number ≡ n) ↔ Block-numbered t mode masks bytes s out at n
+  pub block-front : (t : Table) (mode : Mode) (masks bytes : List ℕ) (s : State) (part : List ℕ)
+      → recorded t mode masks bytes s part 0 ≡ block t mode masks bytes s part
+  pub lengths-exactly : (t : Table) (masks bytes : List ℕ) → 0 < t .count → (whole t masks bytes ≡ true) ↔ (length bytes ≡ length masks * t .count)
+  pub masks-exactly : (t : Table) (masks : List ℕ) → (masks-ok t masks ≡ true) ↔ ((k : ℕ) → k < length masks → mask-ok t (getD masks k 0) ≡ true)
+  -- A refused one hands the state back and leaves every byte of the record; and no thread's byte brings a refusal about.
+  pub block-back : (t : Table) (mode : Mode) (masks bytes : List ℕ) (s : State) (out : List ℕ) (at : ℕ) → 0 < recorded t mode masks bytes s out at .number
+      → (recorded t mode masks bytes s out at .state ≡ s) × (recorded t mode masks bytes s out at .part ≡ out) × (recorded t mode masks bytes s out at .next ≡ 0)
+  pub no-byte-refuses-block : (t : Table) (mode : Mode) (masks bytes : List ℕ) (s : State) (out : List ℕ) (at : ℕ) (others : List ℕ)
+      → length bytes ≡ length others → recorded t mode masks bytes s out at .number ≡ recorded t mode masks others s out at .number

@@ -3,7 +3,7 @@
 -- whole state after it; the fields behind them say its rules in other words.
 use Prim.Native.Nat.{ℕ, _+_, _-_, _*_, _%_, _≤_, _<_}
 use mathlib.Core.Path.{_≡_}
-use mathlib.Core.List.{List, [], _∷_, map}
+use mathlib.Core.List.{List, [], _∷_, _++_, map}
 use mathlib.Core.Logic.{_≢_, _↔_}
 use mathlib.Core.Bool.{Bool, true, false}
 use lib.ListN.{length, getD, take, drop}
@@ -13,6 +13,7 @@ use Rattle.basis.specs.Search.{found, nothing}
 use Rattle.basis.specs.Told.{answered}
 use Rattle.basis.specs.Ceil.{ceil}
 use Rattle.basis.specs.Spaced.{happened}
+use Rattle.basis.specs.Turns.{after}
 use Rattle.flow.specs.Flow.{flows}
 use Rattle.table.specs.Threads.{thread}
 use Rattle.table.specs.Legal.{legal, Sized, Legal}
@@ -37,8 +38,9 @@ use Rattle.walk.specs.Step.{Input, marks-at, step, Rested, Names, Says, ran-by}
 use Rattle.walk.specs.Paid.{pays, payments, runs-of, Unreleased}
 use Rattle.walk.specs.Releases.{releases-in}
 use Rattle.walk.specs.declared.Answer.the-variants.{Ran, Idle}
-use Rattle.scheduler.specs.Taken.{took, mask-ok, taken}
+use Rattle.scheduler.specs.Taken.{Taken, took, mask-ok, taken}
 use Rattle.scheduler.specs.Calls.{Whole-steps, calls, steps}
+use Rattle.block.specs.Block.{byte-of, inputs, recorded}
 use Rattle.admission.specs.Bounded.{bound, Is-bound, No-bound}
 use Rattle.admission.specs.Demand.{demand, Sum-of, Demands}
 use Rattle.admission.specs.Prohibition.{prohibition, Prohibits}
@@ -65,6 +67,26 @@ pub record Demand-2 : Type 0 where
       → s .clock < last-clock → taken t mode x s ≡ took (step t mode x s)
   pub run-steps : (t : Table) (mode : Mode) → legal t ≡ true → mode-ok t mode ≡ true → (a : List Input) → Whole-steps t a → (s : State) → Fits t s
       → s .clock + length a ≤ last-clock → calls t mode a s ≡ map took (steps t mode a s)
+  -- A block that is not refused is as many single calls, none of which is refused: the same state, and from the place on the bytes of their
+  -- answers; the record's other bytes stay.
+  pub block-calls : (t : Table) (mode : Mode) (masks bs : List ℕ) (s : State) (out : List ℕ) (at : ℕ) → length (s .threads) ≡ 32
+      → recorded t mode masks bs s out at .number ≡ 0
+      → calls t mode (inputs t masks bs 0 (length masks)) s ≡ map took (steps t mode (inputs t masks bs 0 (length masks)) s)
+  pub block-state : (t : Table) (mode : Mode) (masks bs : List ℕ) (s : State) (out : List ℕ) (at : ℕ) → length (s .threads) ≡ 32
+      → recorded t mode masks bs s out at .number ≡ 0
+      → recorded t mode masks bs s out at .state ≡ after (taken t mode) (λ (r : Taken). r .state) (inputs t masks bs 0 (length masks)) s
+  pub block-trace : (t : Table) (mode : Mode) (masks bs : List ℕ) (s : State) (out : List ℕ) (at : ℕ) → length (s .threads) ≡ 32
+      → recorded t mode masks bs s out at .number ≡ 0
+      → recorded t mode masks bs s out at .part
+      ≡ take at out ++ (map byte-of (calls t mode (inputs t masks bs 0 (length masks)) s) ++ drop (at + length masks) out)
+  -- It reports the place behind its last byte.
+  pub block-next : (t : Table) (mode : Mode) (masks bs : List ℕ) (s : State) (out : List ℕ) (at : ℕ)
+      → recorded t mode masks bs s out at .number ≡ 0 → recorded t mode masks bs s out at .next ≡ at + length masks
+  -- Two blocks one after the other, the second written where the first stopped, are one.
+  pub two-blocks : (t : Table) (mode : Mode) → Sized t → (masks masks′ bs bs′ : List ℕ) (s : State) (out : List ℕ) (at : ℕ)
+      → let one = recorded t mode masks bs s out at in
+      let two = recorded t mode masks′ bs′ (one .state) (one .part) (one .next) in
+      one .number ≡ 0 → two .number ≡ 0 → recorded t mode (masks ++ masks′) (bs ++ bs′) s out at ≡ two
   -- A run starts fresh: at clock 0, all zero and unmarked, an event thread with P steps since release.
   pub fresh-legal : (t : Table) → legal t ≡ true → fresh-given t ≡ fresh t
   pub fresh-clock : (t : Table) → fresh t .clock ≡ 0

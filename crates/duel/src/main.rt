@@ -56,8 +56,25 @@ fn run(tally: &mut Tally, seed: u64, t: Table, f: Frame, from: State, steps: u32
     }
 }
 
+// A block of some steps, in the frame or without it; the state after it.
+fn block_turn(tally: &mut Tally, seed: u64, t: Table, f: Frame, s: State) -> State {
+    let bytes = deal::block_bytes(seed);
+    let masks = deal::block_masks(seed, t);
+    let r = bout::steps_in_block(seed, t, f, s, &masks, &bytes);
+    count(tally, r.kind);
+    r.state
+}
+
+// Blocks one after the other.
+fn blocks(tally: &mut Tally, seed: u64, t: Table, f: Frame, from: State) {
+    let mut s = from;
+    for k in 0..4u32 {
+        s = block_turn(tally, part(seed, k), t, f, s);
+    }
+}
+
 // One step of a table and a state that may both be damaged, with the right number of bytes or a wrong one, and one in a frame that may
-// be damaged too; what a domain is shown of it; and the table's fresh state.
+// be damaged too; a block of steps; what a domain is shown of it; and the table's fresh state.
 fn try_out(tally: &mut Tally, seed: u64, t: Table, s: State) {
     let bytes = deal::bytes(seed);
     let mask = deal::mask(seed, t);
@@ -67,6 +84,7 @@ fn try_out(tally: &mut Tally, seed: u64, t: Table, s: State) {
     count(tally, q.kind);
     let r = bout::step(t, s, mask, &bytes, n);
     count(tally, r.kind);
+    block_turn(tally, part(seed, 4), t, f, s);
     count(tally, bout::fresh(t));
     count(tally, bout::marks(t));
     count(tally, bout::shown(part(seed, 1), t));
@@ -103,6 +121,7 @@ fn play_table(tally: &mut Tally, seed: u64) {
     let f = deal::frame(part(seed, 12), t);
     count(tally, report::TABLES);
     run(tally, part(seed, 1), t, f, start.state, 18);
+    blocks(tally, part(seed, 13), t, f, start.state);
     for k in 2..6u32 {
         let own = part(seed, k);
         let s = deal::state(own, t);

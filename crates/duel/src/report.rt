@@ -44,6 +44,51 @@ fn steps(tally: &Tally) {
     line(tally, bout::LOST, b" events that came too early\n");
 }
 
+fn blocks(tally: &Tally) {
+    line(tally, bout::BLOCK, b" blocks of steps\n");
+    line(
+        tally,
+        bout::BLOCK_IN_FRAME,
+        b" blocks of steps in a frame\n",
+    );
+    line(tally, bout::NO_STEPS, b" blocks of no steps\n");
+    line(
+        tally,
+        bout::BLOCK_REFUSED + 11,
+        b" blocks refused with 11\n",
+    );
+    line(
+        tally,
+        bout::BLOCK_REFUSED + 12,
+        b" blocks refused with 12\n",
+    );
+    line(
+        tally,
+        bout::BLOCK_REFUSED + 13,
+        b" blocks refused with 13\n",
+    );
+    line(
+        tally,
+        bout::BLOCK_REFUSED + 14,
+        b" blocks refused with 14\n",
+    );
+    line(
+        tally,
+        bout::BLOCK_REFUSED + 16,
+        b" blocks refused with 16\n",
+    );
+    line(
+        tally,
+        bout::BLOCK_REFUSED + 18,
+        b" blocks refused with 18\n",
+    );
+    line(
+        tally,
+        bout::BLOCK_REFUSED + 19,
+        b" blocks refused with 19\n",
+    );
+}
+
 fn damage(tally: &Tally) {
     line(tally, 20, b" tables with a wrong number of domains\n");
     line(tally, 21, b" tables with a wrong number of threads\n");
@@ -68,6 +113,7 @@ fn damage(tally: &Tally) {
 
 pub fn report(tally: &Tally) {
     steps(tally);
+    blocks(tally);
     damage(tally);
     line(tally, bout::STARTED, b" fresh states\n");
     line(tally, bout::UNSTARTED, b" fresh states refused\n");

@@ -70,7 +70,7 @@ module _ (t : Table) (l : Legal t) (d : ℕ) (dd : d < t .domains) where
 module _ (t : Table) (mode : Mode) (ok : legal t ≡ true) where
   module _ (d : ℕ) (dd : d < t .domains) where
     -- What d is shown of a fitting state is no refusal.
-    state-shown : (s : State) → Fits t s → (showing-state t s d ≡ answered []) × (threads-shown t s d ≡ seen-threads t d s)
+    pub state-shown : (s : State) → Fits t s → (showing-state t s d ≡ answered []) × (threads-shown t s d ≡ seen-threads t d s)
     unfolding showing-state threads-shown pick
     state-shown s f = (rw (ok, fits-complete t s f, lt-ltb _ _ dd), rw (ok, fits-complete t s f, lt-ltb _ _ dd))
 

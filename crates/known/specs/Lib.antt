@@ -6,5 +6,6 @@ pub mod KnownBytes
 pub mod KnownSteps
 pub mod KnownEvents
 pub mod KnownFrames
+pub mod KnownBlocks
 pub mod KnownShown
 pub mod KnownBounds

@@ -2,6 +2,7 @@
 use actuator::Actuator;
 use example::example;
 use reader::Verdict;
+use same::same_state;
 use scheduler::Answer;
 use scheduler::Frame;
 use scheduler::Outcome;
@@ -176,6 +177,43 @@ fn steps_in(f: Frame, what: &[u8]) {
     io::write_all(1, what);
 }
 
+// What a block is told, and whether it handed the state back and wrote no byte.
+fn block_told(number: u8, back: bool, what: &[u8]) {
+    say(number);
+    io::write_all(1, b": block, ");
+    io::write_all(1, what);
+    if back {
+        io::write_all(1, b"; state and record as they were\n");
+        return;
+    }
+    io::write_all(1, b"; state or record changed\n");
+}
+
+fn is_untouched(record: [u8; 4]) -> bool {
+    (record[0] == 7) & (record[1] == 7) & (record[2] == 7) & (record[3] == 7)
+}
+
+// A block into a record of four bytes.
+fn blocks(t: Table, s: State, masks: &[u32], bytes: &[u8], at: usize, what: &[u8]) {
+    let mut record = [7u8; 4];
+    let r = block::run_at(t, s, masks, bytes, &mut record, at);
+    let state = r.state;
+    block_told(r.number, same_state(state, s) & is_untouched(record), what);
+}
+
+// The same in a frame.
+fn blocks_in(f: Frame, what: &[u8]) {
+    let e = example();
+    let mut record = [7u8; 4];
+    let r = block::run_at_in_frame(e, f, fresh(e), &[0], b"\x01\x01", &mut record, 0);
+    let state = r.state;
+    block_told(
+        r.number,
+        same_state(state, fresh(e)) & is_untouched(record),
+        what,
+    );
+}
+
 fn shows(domain: u8, what: &[u8]) {
     let v = sight::shown(example(), domain, Answer::Idle);
     say(view_number(v));
@@ -197,6 +235,79 @@ fn drives(a: Actuator, what: &[u8]) {
     say(step_number(o));
     io::write_all(1, b": drive, ");
     io::write_all(1, what);
+}
+
+// Each number of a block.
+fn block_refusals() {
+    let e = example();
+    blocks(
+        no_table(),
+        fresh(e),
+        &[0],
+        b"\x01\x01",
+        0,
+        b"a table of zeros",
+    );
+    blocks(
+        e,
+        late(e, 1000000001),
+        &[0],
+        b"\x01\x01",
+        0,
+        b"example E at clock 1,000,000,001",
+    );
+    blocks(
+        e,
+        fresh(e),
+        &[0],
+        b"\x01\x01\x01",
+        0,
+        b"example E with three bytes",
+    );
+    blocks(
+        e,
+        fresh(e),
+        &[0],
+        b"\x01\x01\x01\x01",
+        0,
+        b"example E with the bytes of two steps and one mask",
+    );
+    blocks(
+        e,
+        late(e, 999999999),
+        &[0, 0],
+        b"\x01\x01\x01\x01",
+        0,
+        b"example E, two steps at clock 999,999,999",
+    );
+    blocks(
+        e,
+        fresh(e),
+        &[0, 0],
+        b"\x01\x01\x01\x01",
+        3,
+        b"example E, two steps from place 3 of four bytes",
+    );
+    blocks(
+        e,
+        fresh(e),
+        &[],
+        b"",
+        5,
+        b"example E, no steps from place 5 of four bytes",
+    );
+    blocks(
+        e,
+        fresh(e),
+        &[0, 1],
+        b"\x01\x01\x01\x01",
+        0,
+        b"example E, an event of thread 0 in the second step",
+    );
+    blocks_in(
+        frame(1, 2, 1),
+        b"example E in a frame with a window of domain 2",
+    );
 }
 
 fn main() {
@@ -295,6 +406,7 @@ fn main() {
         frame(1, 0, 60001),
         b"example E in a frame with a window of 60,001 steps\n",
     );
+    block_refusals();
     drives(
         actuator::start(0, 0, 0),
         b"example E, an actuator with rate 0\n",

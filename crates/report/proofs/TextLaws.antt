@@ -1,10 +1,10 @@
 -- Text in a buffer: pieces put one after the other into a text of 64 bytes, and that text laid into a buffer whole or not at all.
-use Prim.Native.Nat.{ℕ, zero, suc, _+_, _≤_, _<_}
+use Prim.Native.Nat.{ℕ, _+_, _≤_, _<_}
 use mathlib.Core.Path.{_≡_, refl, ap, sym, _∙_}
-use mathlib.Core.List.{List, [], _∷_, _++_}
+use mathlib.Core.List.{List, [], _∷_}
 use native.Mathlib.Omega.{arith}
 use native.Mathlib.Numerals.{add-one}
-use lib.ListN.{length, getD, set, take, drop, length-append}
+use lib.ListN.{length, getD, set, take, drop}
 use lib.Seq.{sets-eq, take-suc, take-at}
 use lib.Dec.{leb}
 use borrow.Author.Tests.{le-leb, lt-leb, leb-true}
@@ -12,7 +12,7 @@ use Rattle.basis.specs.Tests.{pick}
 use Rattle.basis.specs.Told.{Told, answered, refused}
 use Rattle.basis.proofs.TestLaws.{by-test}
 use Rattle.writer.specs.Buffer.{Room, Put}
-use Rattle.writer.specs.Writer.{overlaid, Laid}
+use Rattle.writer.specs.Writer.{Laid}
 use Rattle.writer.proofs.WriterLaws.{put-join, put-length, put-overlaid, overlaid-laid}
 use Rattle.report.specs.declared.Printing.{Printing}
 use Rattle.report.specs.declared.Printing.the-variants.{Printed, NoRoom}
@@ -58,23 +58,6 @@ module _ (b : List ℕ) (at : ℕ) (text : List ℕ) where
       rw (m, ← q) (overlaid-laid b at text (leb-true _ _ m)))
       (λ m. let f : refused 16 ≡ answered (next ∷ []) = rw m at e in
       let q : _≡_ {A = ℕ} 16 0 = ap (λ (x : Told). x .number) f in absurd (omega arith))
-
-  -- Where there is room, a line is put and is not refused.
-  pub printed-put : {b' : List ℕ} {k : ℕ} → at + length text ≤ length b → answered (k ∷ []) ≡ printing b at text → b' ≡ printed b at text → Put b at b' k text
-  unfolding printing printed pick overlaid
-  printed-put {b'} {k} h e f =
-      let l = le-leb (at + length text) (length b) h in
-      let e' : answered (k ∷ []) ≡ answered ((at + length text) ∷ []) = rw l at e in
-      let v = ap (λ (w : Told). w .values) e' in
-      let g : b' ≡ take at b ++ text ++ drop (at + length text) b = rw l at f in
-      record { end = cc; holds = g ∙ sym (sets-eq text b at h) }
-
-  pub roomy-printed : {A : Type 0} → at + length text ≤ length b → refused 16 ≡ printing b at text → A
-  unfolding printing pick
-  roomy-printed h e =
-      let l = le-leb (at + length text) (length b) h in
-      let f : refused 16 ≡ answered ((at + length text) ∷ []) = rw l at e in
-      let q : _≡_ {A = ℕ} 16 0 = ap (λ (x : Told). x .number) f in absurd (omega arith)
 
   -- A refused line left every byte as it was.
   pub print-refused-stays : 0 < printing b at text .number → printed b at text ≡ b

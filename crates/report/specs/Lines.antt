@@ -1,6 +1,8 @@
 -- The lines that program bench prints, as bytes. Every line ends in LF.
-use Prim.Native.Nat.{ℕ}
+use Prim.Native.Nat.{ℕ, _+_, _-_}
 use mathlib.Core.List.{List, [], _∷_, _++_}
+use lib.Dec.{eqb, ltb}
+use Rattle.basis.specs.Tests.{pick}
 use Rattle.walk.specs.declared.Answer.{Answer}
 use Rattle.walk.specs.declared.Answer.the-variants.{Ran, IdleFor, Idle}
 use Rattle.report.specs.Decimal.{decimal}
@@ -40,6 +42,15 @@ choice Idle = 0x2D ∷ 0x2D ∷ []
 -- The clock before a step, a space, and whom it chose.
 unfoldable pub step-line : ℕ → Answer → List ℕ
 step-line clock a = decimal clock ++ space ++ choice a ++ line-feed
+
+-- What a trace's byte tells: i is thread i, 32 + i is idle for i, 255 is idle.
+unfoldable pub answer : ℕ → Answer
+answer b = pick (ltb b 32) (Ran b) (pick (eqb b 255) Idle (IdleFor (b - 32)))
+
+-- A line for each byte of a trace, the first with this clock.
+unfoldable pub trace-lines : ℕ → List ℕ → List ℕ
+trace-lines clock [] = []
+trace-lines clock (b ∷ bs) = step-line clock (answer b) ++ trace-lines (clock + 1) bs
 
 -- `end` and the number of steps.
 unfoldable pub end-line : ℕ → List ℕ

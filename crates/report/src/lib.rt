@@ -1,17 +1,17 @@
 // The lines that program bench prints, each made whole in a lent buffer from a place that the caller names.
 ghost use mathlib.Core.Path.{_≡_};
-ghost use Prim.Native.Nat.{_≤_};
+ghost use Prim.Native.Nat.{_+_, _*_, _≤_};
 ghost use lib.ListN.{length};
-ghost use Rattle.report.specs.Lines.{threads-line, step-line, end-line, refused-line};
+ghost use Rattle.writer.specs.Buffer.{Put};
+ghost use Rattle.report.specs.Lines.{threads-line, trace-lines, end-line, refused-line};
 ghost use Rattle.report.specs.Printing.{told, printing, printed};
-use scheduler::Answer;
 
 mod text;
 
 use text::lay;
 use text::print_counted;
 use text::put;
-use text::put_choice;
+use text::put_line;
 use text::put_number;
 
 // Printed up to before a place, or too little room.
@@ -27,16 +27,18 @@ pub fn print_threads(buf: &mut [u8], at: usize, threads: u8) -> Printing
     print_counted(buf, at, b"threads ", threads as u64)
 }
 
-// The clock before a step, and whom the step chose: 16 bytes at most.
-pub fn print_step(buf: &mut [u8], at: usize, clock: u32, answer: Answer) -> Printing
-    ensures { λ r. ⌜ (told r ≡ printing (now (buf .entry)) at (step-line clock answer)) × (now (buf .exit) ≡ printed (now (buf .entry)) at (step-line clock answer)) × (length (step-line clock answer) ≤ 16) ⌝ }
+// A line for each byte of a trace, from a clock on: the clock before the step, and whom the step chose. 16 bytes at most a line.
+pub fn print_trace(buf: &mut [u8], at: usize, clock: u32, trace: &[u8]) -> usize
+    requires { ⌜ (at + length (now trace) * 16 ≤ length (now buf)) × (clock + length (now trace) ≤ 4294967295) ⌝ }
+    ensures { λ r. ⌜ (r ≤ at + length (now (trace .entry)) * 16) × Put (now (buf .entry)) at (now (buf .exit)) r (trace-lines clock (now (trace .entry))) ⌝ }
 {
-    let mut text = [0u8; 64];
-    let a = put_number(&mut text, 0, clock as u64);
-    let b = put(&mut text, a, b" ");
-    let c = put_choice(&mut text, b, answer);
-    let d = put(&mut text, c, b"\n");
-    lay(buf, at, &text[..d])
+    let mut next = at;
+    let mut c = clock;
+    for k in 0..trace.len() {
+        next = put_line(buf, next, c, trace[k]);
+        c += 1;
+    }
+    next
 }
 
 // How many steps were done.

@@ -1,14 +1,13 @@
 // Putting pieces of text one after the other, and a whole text where there is room for it.
-ghost use mathlib.Core.List.{_++_};
+ghost use mathlib.Core.List.{[], _∷_, _++_};
 ghost use lib.ListN.{length};
-ghost use Prim.Native.Nat.{_≤_};
+ghost use Prim.Native.Nat.{_+_, _%_, _≤_, _<_};
 ghost use mathlib.Core.Path.{_≡_};
 ghost use Rattle.writer.specs.Buffer.{Room, Put};
-ghost use Rattle.report.specs.Decimal.{decimal};
-ghost use Rattle.report.specs.Lines.{choice, counted-line};
+ghost use Rattle.report.specs.Decimal.{digit, decimal};
+ghost use Rattle.report.specs.Lines.{answer, choice, counted-line, step-line};
 ghost use Rattle.report.specs.Printing.{told, printing, printed};
 use crate::Printing;
-use scheduler::Answer;
 
 pub fn put(buf: &mut [u8], at: usize, text: &[u8]) -> usize
     requires { ⌜ Room (now buf) at (now text) ⌝ }
@@ -22,32 +21,81 @@ pub fn put(buf: &mut [u8], at: usize, text: &[u8]) -> usize
     k
 }
 
+// How many digits a number has.
+fn places(n: u64) -> usize
+    ensures { λ r. ⌜ r ≡ length (decimal n) ⌝ }
+{
+    let mut k = 1;
+    let mut rest = n;
+    while 10 <= rest {
+        rest /= 10;
+        k += 1;
+    }
+    k
+}
+
+// The last digit of a number.
+fn last_digit(n: u64) -> u8
+    ensures { λ r. ⌜ r ≡ digit (n % 10) ⌝ }
+{
+    48 + (n % 10) as u8
+}
+
+// A number's digits, the last one first.
 pub fn put_number(buf: &mut [u8], at: usize, n: u64) -> usize
     requires { ⌜ Room (now buf) at (decimal n) ⌝ }
     ensures { λ r. ⌜ Put (now (buf .entry)) at (now (buf .exit)) r (decimal n) ⌝ }
 {
-    let mut digits = [0u8; 20];
-    let k = io::decimal(n, &mut digits);
-    put(buf, at, &digits[..k])
+    let end = at + places(n);
+    let mut k = end;
+    let mut rest = n;
+    while at < k {
+        k -= 1;
+        buf[k] = last_digit(rest);
+        rest /= 10;
+    }
+    end
 }
 
-fn put_named(buf: &mut [u8], at: usize, letter: &[u8], i: u8) -> usize
-    requires { ⌜ Room (now buf) at (now letter ++ decimal i) ⌝ }
-    ensures { λ r. ⌜ (length (decimal i) ≤ 3) × Put (now (buf .entry)) at (now (buf .exit)) r (now (letter .entry) ++ decimal i) ⌝ }
+fn put_byte(buf: &mut [u8], at: usize, b: u8) -> usize
+    requires { ⌜ at < length (now buf) ⌝ }
+    ensures { λ r. ⌜ Put (now (buf .entry)) at (now (buf .exit)) r (b ∷ []) ⌝ }
 {
-    let a = put(buf, at, letter);
+    buf[at] = b;
+    at + 1
+}
+
+fn put_named(buf: &mut [u8], at: usize, letter: u8, i: u8) -> usize
+    requires { ⌜ at + 4 ≤ length (now buf) ⌝ }
+    ensures { λ r. ⌜ (r ≤ at + 4) × Put (now (buf .entry)) at (now (buf .exit)) r ((letter ∷ []) ++ decimal i) ⌝ }
+{
+    let a = put_byte(buf, at, letter);
     put_number(buf, a, i as u64)
 }
 
-pub fn put_choice(buf: &mut [u8], at: usize, answer: Answer) -> usize
-    requires { ⌜ Room (now buf) at (choice answer) ⌝ }
-    ensures { λ r. ⌜ (length (choice answer) ≤ 4) × Put (now (buf .entry)) at (now (buf .exit)) r (choice answer) ⌝ }
+fn put_choice(buf: &mut [u8], at: usize, b: u8) -> usize
+    requires { ⌜ at + 4 ≤ length (now buf) ⌝ }
+    ensures { λ r. ⌜ (r ≤ at + 4) × Put (now (buf .entry)) at (now (buf .exit)) r (choice (answer b)) ⌝ }
 {
-    match answer {
-        Answer::Ran(i) => put_named(buf, at, b"T", i),
-        Answer::IdleFor(i) => put_named(buf, at, b"I", i),
-        Answer::Idle => put(buf, at, b"--"),
+    if b < 32 {
+        return put_named(buf, at, b'T', b);
     }
+    if b == 255 {
+        let a = put_byte(buf, at, b'-');
+        return put_byte(buf, a, b'-');
+    }
+    put_named(buf, at, b'I', b - 32)
+}
+
+// The line of a step, from its byte in the trace.
+pub fn put_line(buf: &mut [u8], at: usize, clock: u32, b: u8) -> usize
+    requires { ⌜ at + 16 ≤ length (now buf) ⌝ }
+    ensures { λ r. ⌜ (r ≤ at + 16) × Put (now (buf .entry)) at (now (buf .exit)) r (step-line clock (answer b)) ⌝ }
+{
+    let a = put_number(buf, at, clock as u64);
+    let c = put_byte(buf, a, b' ');
+    let d = put_choice(buf, c, b);
+    put_byte(buf, d, b'\n')
 }
 
 // All of the text from the place at on, or nothing of it.

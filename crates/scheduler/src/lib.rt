@@ -76,7 +76,7 @@ fn bit_passes(t: Table, mask: u32, i: u8) -> bool
 }
 
 // Whether a mask has bits of event threads only.
-fn mask_passes(t: Table, mask: u32) -> bool
+pub fn mask_passes(t: Table, mask: u32) -> bool
     ensures { λ r. ⌜ r ≡ mask-ok t mask ⌝ }
 {
     for i in 0..32u8 {

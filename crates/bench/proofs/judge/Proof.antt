@@ -1,4 +1,4 @@
--- An accepted table is legal, so it has 1 to 32 threads.
+-- An accepted table is legal.
 use mathlib.Core.Path.{_≡_, sym}
 use Rattle.reader.specs.Reader.{accepted, reading}
 use Rattle.codec.proofs.RoundTrip.{accepted-exactly}
@@ -16,8 +16,7 @@ run-requires : tie.Need-run-requires
 run-requires c κs = let s = c .before .before .before .before .before .args .bytes .now in
     let r = c .before .before .before .read in
     let e : accepted (r .result .table) ≡ reading s = rw (c .enum-told .given .1) at (r .ensures .0) in
-    let l = accepted-exactly s (r .ensures .1) (r .result .table) .0 (sym e) .0 in
-    (l .count-low, l .count-high)
+    accepted-exactly s (r .ensures .1) (r .result .table) .0 (sym e) .0
 
 enum-known-v : tie.Need-enum-known-v
 enum-known-v c = search needs

@@ -1,15 +1,28 @@
--- The buffers keep their length, and the turns that are left fall.
-use mathlib.Core.Path.{_≡_}
+-- The buffers keep their length, the state fits on, the rest stays less than a step, and the turns that are left fall.
+use Prim.Native.Nat.{_<_}
+use mathlib.Core.Path.{_≡_, sym, subst}
 use lib.ListN.{length}
+use Rattle.basis.specs.Tests.{pick}
+use Rattle.table.proofs.LegalLaws.{legal-complete}
+use Rattle.state.specs.State.{Fits, fresh, fresh-given}
+use Rattle.state.proofs.FitLaws.{fresh-fits}
 use borrow.Author.Needs.{needs}
 use Rattle.bench.proofs.run.Statement.{statement}
 use Rattle.bench.proofs.run.Tie as tie
 
 abbrev Inv-loop : tie.InvT-loop
-Inv-loop t steps₀ out₀ s₀ turns₀ steps out s turns = (length steps ≡ 128000) × (length out ≡ 65536)
+Inv-loop t steps₀ out₀ s₀ have₀ turns₀ steps out s have turns = (length steps ≡ 128000) × (length out ≡ 65536) × Fits t s × (have < t .count)
 
 abbrev μ-loop : tie.MeasureT-loop
-μ-loop t steps₀ out₀ s₀ turns₀ steps out s turns = turns
+μ-loop t steps₀ out₀ s₀ have₀ turns₀ steps out s have turns = turns
+
+-- A legal table's fresh state fits it.
+fitting : (c : tie.After-fresh Inv-loop μ-loop) → Fits (c .before .before .args .t) (c .fresh .result .state)
+unfolding fresh-given pick
+fitting c =
+    let l = c .before .before .pre in
+    let e : c .fresh .result .state ≡ fresh (c .before .before .args .t) = rw (legal-complete _ l) at (c .fresh .ensures .1) in
+    subst (Fits (c .before .before .args .t)) (sym e) (fresh-fits (c .before .before .args .t) (l .count-high))
 
 large-buffer-requires : tie.Need-large-buffer-requires Inv-loop μ-loop
 large-buffer-requires c κs = search needs
@@ -27,7 +40,7 @@ turns-left-requires : tie.Need-turns-left-requires Inv-loop μ-loop
 turns-left-requires c κs = search needs
 
 loop-holds : tie.Need-loop-holds Inv-loop μ-loop
-loop-holds c = search needs
+loop-holds c = (search needs, search needs, fitting (c .before .before .before .before .before), c .before .before .before .before .before .before .before .pre .count-low)
 
 slice-aggregate-take-turn : tie.Need-slice-aggregate-take-turn Inv-loop μ-loop
 slice-aggregate-take-turn c = search needs

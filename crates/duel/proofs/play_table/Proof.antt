@@ -31,17 +31,23 @@ part-requires-2 c κs = search needs
 run-requires : tie.Need-run-requires Inv-loop μ-loop
 run-requires c κs = search needs
 
+part-requires-3 : tie.Need-part-requires-3 Inv-loop μ-loop
+part-requires-3 c κs = search needs
+
+blocks-requires : tie.Need-blocks-requires Inv-loop μ-loop
+blocks-requires c κs = search needs
+
 loop-holds : tie.Need-loop-holds Inv-loop μ-loop
 loop-holds c = search needs
 
-part-requires-3 : tie.Need-part-requires-3 Inv-loop μ-loop
-part-requires-3 c κs = search needs
+part-requires-4 : tie.Need-part-requires-4 Inv-loop μ-loop
+part-requires-4 c κs = search needs
 
 state-requires : tie.Need-state-requires Inv-loop μ-loop
 state-requires c κs = search needs
 
-part-requires-4 : tie.Need-part-requires-4 Inv-loop μ-loop
-part-requires-4 c κs = search needs
+part-requires-5 : tie.Need-part-requires-5 Inv-loop μ-loop
+part-requires-5 c κs = search needs
 
 frame-requires-2 : tie.Need-frame-requires-2 Inv-loop μ-loop
 frame-requires-2 c κs = search needs
@@ -49,8 +55,8 @@ frame-requires-2 c κs = search needs
 run-requires-2 : tie.Need-run-requires-2 Inv-loop μ-loop
 run-requires-2 c κs = search needs
 
-part-requires-5 : tie.Need-part-requires-5 Inv-loop μ-loop
-part-requires-5 c κs = search needs
+part-requires-6 : tie.Need-part-requires-6 Inv-loop μ-loop
+part-requires-6 c κs = search needs
 
 try-out-requires : tie.Need-try-out-requires Inv-loop μ-loop
 try-out-requires c κs = search needs
@@ -64,14 +70,14 @@ loop-less c = search needs
 loop-again : tie.Need-loop-again Inv-loop μ-loop
 loop-again c = search needs
 
-part-requires-6 : tie.Need-part-requires-6 Inv-loop μ-loop
-part-requires-6 c κs = search needs
+part-requires-7 : tie.Need-part-requires-7 Inv-loop μ-loop
+part-requires-7 c κs = search needs
 
 damaged-tables-requires : tie.Need-damaged-tables-requires Inv-loop μ-loop
 damaged-tables-requires c κs = search needs
 
-part-requires-7 : tie.Need-part-requires-7 Inv-loop μ-loop
-part-requires-7 c κs = search needs
+part-requires-8 : tie.Need-part-requires-8 Inv-loop μ-loop
+part-requires-8 c κs = search needs
 
 damaged-states-requires : tie.Need-damaged-states-requires Inv-loop μ-loop
 damaged-states-requires c κs = search needs
@@ -92,19 +98,21 @@ play-table-spec =
     count-requires
     part-requires-2
     run-requires
-    loop-holds
     part-requires-3
-    state-requires
+    blocks-requires
+    loop-holds
     part-requires-4
+    state-requires
+    part-requires-5
     frame-requires-2
     run-requires-2
-    part-requires-5
+    part-requires-6
     try-out-requires
     add-k
     loop-less
     loop-again
-    part-requires-6
-    damaged-tables-requires
     part-requires-7
+    damaged-tables-requires
+    part-requires-8
     damaged-states-requires
     returns)

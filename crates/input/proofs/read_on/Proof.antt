@@ -1,10 +1,12 @@
--- What was read lies behind the bytes that were there, and within the buffer.
+-- What was read lies behind the bytes that were there, which stay, and within the buffer.
 use Prim.Native.Nat.{_-_, _≤_}
 use native.Mathlib.Omega.{arith}
+use native.Mathlib.Nat.{le-refl}
 use mir.Facts.{toZ-ofZ}
 use mir.Syntax.{w64}
 use lib.ListN.{length, take, drop, length-take}
 use Rattle.input.proofs.InputLaws.{moved-counts}
+use borrow.Rule.Slice.PartMut.{take-put}
 use borrow.Author.Needs.{needs}
 use Rattle.input.proofs.read_on.Statement.{statement}
 use Rattle.input.proofs.read_on.Tie as tie
@@ -28,7 +30,7 @@ same-length : tie.Need-same-length
 same-length c = search needs
 
 returns : tie.Need-returns
-returns c = search needs
+returns c = let s = c .before .before .before .before .before .before .before in (omega (arith, s .pre, same-length c), le-refl _, take-put _ (length (s .args .buf .now) - s .args .at) _ (c .before .before .before .before .read .last .1 .0) (s .pre))
 
 count-requires : tie.Need-count-requires
 count-requires c κs = search needs
@@ -40,7 +42,7 @@ same-length-2 : tie.Need-same-length-2
 same-length-2 c = search needs
 
 returns-2 : tie.Need-returns-2
-returns-2 c = search needs
+returns-2 c = let s = c .before .before .before .before .before .before .before .before .before in (omega (arith, s .pre, same-length-2 c), le-refl _, take-put _ (length (s .args .buf .now) - s .args .at) _ (c .before .before .before .before .before .before .read .last .1 .0) (s .pre))
 
 same-length-3 : tie.Need-same-length-3
 same-length-3 c = search needs
@@ -51,8 +53,11 @@ returns-3 c =
     let l = s .args .buf .now in
     let r = c .before .before .before .before .before .before .read in
     let m : c .before .count .result ≤ length (take (length l - s .args .at) (drop (s .args .at) l)) =
-    moved-counts _ _ _ (r .result) (r .ensures) (rw (toZ-ofZ {w = w64} {z = r .result} (record { sfits = r .ok })) at (c .before .count .ensures .1)) in
-    omega (arith, length-take (length l - s .args .at) (drop (s .args .at) l), s .pre, same-length-3 c)
+    moved-counts _ _ _ (r .result) (r .ensures) (rw (toZ-ofZ {w = w64} {z = r .result} (record { sfits = r .ok })) at (c .before .count .ensures .1)) in (
+      omega (arith, length-take (length l - s .args .at) (drop (s .args .at) l), s .pre, same-length-3 c),
+      omega arith,
+      take-put _ (length (s .args .buf .now) - s .args .at) _ (c .before .before .before .before .before .before .read .last .1 .0) (s .pre),
+    )
 
 pub read-on-spec : {M : Type 1} → statement M
 read-on-spec =

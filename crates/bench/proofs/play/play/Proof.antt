@@ -1,132 +1,136 @@
--- After some steps the code stands where `played` does; each turn plays one more, and at the end all are played.
-use Prim.Native.Nat.{_+_, _-_, _*_, _≤_, _<_, min}
-use mathlib.Core.Path.{_≡_, refl}
+-- The block is not refused, its trace gives the lines of its steps, and behind them stands what `refusal-behind` says.
+use Prim.Native.Nat.{ℕ, _*_, _/_, _%_, _≤_}
+use mathlib.Core.Path.{_≡_, ap, sym, _∙_, subst}
+use mathlib.Core.List.{List}
 use native.Mathlib.Omega.{arith}
-use native.Mathlib.Nat.{suc-mul}
-use native.Mathlib.Numerals.{add-one}
-use lib.ListN.{length, take, drop}
-use Rattle.basis.specs.Ceil.{ceil}
-use Rattle.writer.proofs.WriterLaws.{put-none, put-length}
-use Rattle.basis.specs.Search.{listed}
-use Rattle.basis.specs.Turns.{after}
-use Rattle.bench.specs.Text.{bytes-of, played, from}
-use Rattle.bench.specs.Playing.{Plays}
-use Rattle.bench.proofs.PlayLaws.{plays-next, played-next, step-starts, step-bytes}
+use lib.ListN.{length, take, replicate, length-replicate}
+use lib.Seq.{length-take-le}
+use Rattle.state.specs.State.{Fits}
+use Rattle.writer.specs.Buffer.{Put}
+use Rattle.writer.proofs.WriterLaws.{put-length}
+use Rattle.report.specs.Lines.{trace-lines}
+use Rattle.bench.specs.Text.{Run, played-all, from}
+use Rattle.bench.specs.Playing.{refusal-behind}
+use Rattle.bench.proofs.BlockLaws.{state-fits, chunk-played, steps-inside, steps-few, zeros-none}
 use borrow.Author.Needs.{needs}
 use Rattle.bench.proofs.play.play.Statement.{statement}
 use Rattle.bench.proofs.play.play.Tie as tie
 
-abbrev Inv-loop : tie.InvT-loop
-Inv-loop t bytes out₀ size len steps p₀ i₀ counter₀ out p i counter =
-    (counter ≤ steps) × (i ≡ min (counter * size) len) × (p .next ≤ counter * 16) × Plays out₀ p₀ out p (played t bytes (from (p₀ .state)) counter)
+few : (c : tie.After-cut) → c .cut .result ≤ 4000
+few c =
+    let s = c .before .before .before .before in
+    steps-few (c .cut .result) (length (s .args .bytes .now)) (s .args .t .count) (s .pre .0 .count-low) (c .cut .ensures .0) (s .pre .2 .few)
 
-abbrev μ-loop : tie.MeasureT-loop
-μ-loop t bytes out₀ size len steps p₀ i₀ counter₀ out p i counter = steps - counter
+inside : (c : tie.After-cut) → let s = c .before .before .before .before in c .cut .result * (s .args .t .count) ≤ length (s .args .bytes .now)
+inside c = let s = c .before .before .before .before in steps-inside (c .cut .result) (length (s .args .bytes .now)) (s .args .t .count) (c .cut .ensures .0)
 
--- The next step's bytes start before the end.
-starts : (c : tie.In-loop Inv-loop μ-loop) → let s = c .before .before .before .before .before .before .before in
-    c .before .loop .counter * (s .args .t .count) < length (s .args .bytes .now)
-starts c =
-    let s = c .before .before .before .before .before .before .before in
-    step-starts (s .args .bytes .now) (s .args .t .count) (c .before .loop .counter) (s .pre .some)
-    (rw (c .before .before .rounded-up .ensures) at (c .loop-test .taken))
+masked : (n : ℕ) → n ≤ 4000 → length (take n (replicate {A = ℕ} 4000 0)) ≡ n
+masked n h = length-take-le n (replicate 4000 0) (rw (length-replicate {A = ℕ} 4000 0) h)
 
--- So the code stands at the start of the step, and has room for its line.
-stands : (c : tie.In-loop Inv-loop μ-loop) → let s = c .before .before .before .before .before .before .before in
-    c .before .loop .i ≡ c .before .loop .counter * (s .args .t .count)
-stands c = omega (arith, starts c, c .before .loop .inv .1)
+room : (c : tie.After-run) → length (c .run .last .1 .1 .1 .1 .0) ≡ 4000
+room c = c .run .kept .1 .1 .1 .1 .0 ∙ length-replicate {A = ℕ} 4000 0
 
-roomy : (c : tie.In-loop Inv-loop μ-loop) → c .before .loop .p .next + 16 ≤ length (c .before .loop .out)
-roomy c =
-    let s = c .before .before .before .before .before .before .before in
-    omega (arith, put-length (c .before .loop .inv .3 .put), c .before .loop .inv .2, s .pre .fits, c .before .before .rounded-up .ensures, c .loop-test .taken)
+traced : (c : tie.After-run) → let n = c .before .before .before .before .cut .result in length (take n (c .run .last .1 .1 .1 .1 .0)) ≡ n
+traced c = length-take-le _ _ (omega (arith, few (c .before .before .before .before), room c))
 
--- What is lent are the bytes of the step.
-lent : (c : tie.After-step-end Inv-loop μ-loop) → let s = c .before .before .before .before .before .before .before .before in
-    take (c .step-end .result - c .before .before .loop .i) (drop (c .before .before .loop .i) (s .args .bytes .now))
-    ≡ bytes-of (s .args .t .count) (c .before .before .loop .counter) (s .args .bytes .now)
-lent c =
+fitting : (c : tie.After-run) → Fits (c .before .before .before .before .before .before .before .before .args .t) (c .run .result .state)
+fitting c =
     let s = c .before .before .before .before .before .before .before .before in
-    rw (c .step-end .ensures, stands (c .before))
-    (step-bytes (s .args .bytes .now) (s .args .t .count) (c .before .before .loop .counter) (s .pre .some)
-    (rw (c .before .before .before .rounded-up .ensures) at (c .before .loop-test .taken)))
+    let k = c .before .before .before .before .cut in
+    state-fits (s .args .t) (s .pre .0) (s .args .s) (s .pre .1) (s .args .bytes .now) (take (k .result) (replicate 4000 0)) (replicate 4000 0)
+    (c .run .last .1 .1 .1 .1 .0) (zeros-none (k .result) 4000) (c .run .result) (k .result) (masked (k .result) (few (c .before .before .before .before)))
+    (k .ensures .0) (k .ensures .1) (k .ensures .2) (rw (length-replicate {A = ℕ} 4000 0) (few (c .before .before .before .before))) (c .run .ensures)
 
-cast-size : tie.Need-cast-size Inv-loop μ-loop
-cast-size c = search needs
+played-as : (c : tie.After-run) → let s = c .before .before .before .before .before .before .before .before in let n = c .before .before .before .before .cut .result in let len = length (s .args .bytes .now) in
+    played-all (s .args .t) (s .args .bytes .now) (from (s .args .s))
+    ≡ record { lines = trace-lines (s .args .s .clock) (take n (c .run .last .1 .1 .1 .1 .0)); state = c .run .result .state; why = refusal-behind n (len / s .args .t .count) (len % s .args .t .count) }
+played-as c =
+    let s = c .before .before .before .before .before .before .before .before in
+    let k = c .before .before .before .before .cut in
+    chunk-played (s .args .t) (s .pre .0) (s .args .s) (s .pre .1) (s .args .bytes .now) (take (k .result) (replicate 4000 0)) (replicate 4000 0)
+    (c .run .last .1 .1 .1 .1 .0) (zeros-none (k .result) 4000) (c .run .result) (k .result) (masked (k .result) (few (c .before .before .before .before)))
+    (k .ensures .0) (k .ensures .1) (k .ensures .2) (rw (length-replicate {A = ℕ} 4000 0) (few (c .before .before .before .before))) (c .run .ensures)
 
-cast-rounded-up : tie.Need-cast-rounded-up Inv-loop μ-loop
-cast-rounded-up c = search needs
+cast-count : tie.Need-cast-count
+cast-count c = search needs
 
-cast-rounded-up-2 : tie.Need-cast-rounded-up-2 Inv-loop μ-loop
-cast-rounded-up-2 c = search needs
+div-whole : tie.Need-div-whole
+div-whole c = search needs
 
-rounded-up-requires : tie.Need-rounded-up-requires Inv-loop μ-loop
-rounded-up-requires c κs = search needs
+cut-requires : tie.Need-cut-requires
+cut-requires c κs = search needs
 
-loop-holds : tie.Need-loop-holds Inv-loop μ-loop
-unfolding played listed after
-loop-holds c = (omega arith, omega arith, omega arith, record { state = refl; why = refl; put = put-none _ _ })
+mul-end : tie.Need-mul-end
+mul-end c = let s = c .before .before .before .before in omega (arith, inside c, s .pre .2 .few, s .pre .0 .count-high)
 
-step-end-requires : tie.Need-step-end-requires Inv-loop μ-loop
-step-end-requires c κs = omega (arith, starts c, stands c)
+array-share-prefix-masks : tie.Need-array-share-prefix-masks
+array-share-prefix-masks c = few c
 
-sub-play-on : tie.Need-sub-play-on Inv-loop μ-loop
-sub-play-on c = omega (arith, starts (c .before), stands (c .before), c .step-end .ensures)
+slice-aggregate-run : tie.Need-slice-aggregate-run
+slice-aggregate-run c = sym (masked _ (few (c .before)))
 
-part-play-on-start : tie.Need-part-play-on-start Inv-loop μ-loop
-part-play-on-start c = omega (arith, starts (c .before), stands (c .before), c .step-end .ensures)
+slice-aggregate-run-2 : tie.Need-slice-aggregate-run-2
+slice-aggregate-run-2 c = sym (length-take-le _ _ (inside (c .before .before)))
 
-part-play-on-end : tie.Need-part-play-on-end Inv-loop μ-loop
-part-play-on-end c = omega (arith, c .step-end .ensures)
+slice-aggregate-run-3 : tie.Need-slice-aggregate-run-3
+slice-aggregate-run-3 c = search needs
 
-play-on-requires : tie.Need-play-on-requires Inv-loop μ-loop
-play-on-requires c κs = roomy (c .before .before .before)
+run-requires : tie.Need-run-requires
+run-requires c κs = search needs
 
-add-counter : tie.Need-add-counter Inv-loop μ-loop
-add-counter c = search needs
+array-share-prefix-trace : tie.Need-array-share-prefix-trace
+array-share-prefix-trace c = omega (arith, few (c .before .before .before .before .before .before), room (c .before .before))
 
-loop-less : tie.Need-loop-less Inv-loop μ-loop
-loop-less c = search needs
+slice-aggregate-print-trace : tie.Need-slice-aggregate-print-trace
+slice-aggregate-print-trace c = sym (traced (c .before .before .before))
 
-loop-again : tie.Need-loop-again Inv-loop μ-loop
-loop-again c = let s = c .before .before .before .before .before .before .before .before .before .before .before .before .before in
-    let l = c .before .before .before .before .before .before .before .loop in
-    let d = c .before .before .play-on .ensures in
-    let m : (l .counter + 1) * (s .args .t .count) ≡ l .counter * (s .args .t .count) + s .args .t .count = rw add-one (suc-mul (l .counter) (s .args .t .count)) in (
-      omega arith,
-      rw (m, ← stands (c .before .before .before .before .before .before)) (c .before .before .before .before .before .step-end .ensures),
-      omega (arith, d .0, l .inv .2),
-      rw (played-next (s .args .t) (s .args .bytes .now) (from (s .args .s)) (l .counter))
-          (plays-next (s .args .t) _ _ (l .inv .3) (rw (lent (c .before .before .before .before .before)) at (d .1))),
+print-trace-requires : tie.Need-print-trace-requires
+print-trace-requires c κs =
+    let s = c .before .before .before .before .before .before .before .before .before .before .before in
+    let n = traced (c .before .before .before) in
+    (omega (arith, n, few (c .before .before .before .before .before .before .before), s .pre .2 .fits), omega (arith, n, c .before .before .before .before .before .before .before .cut .ensures .1))
+
+rem-refusal : tie.Need-rem-refusal
+rem-refusal c = search needs
+
+refusal-requires : tie.Need-refusal-requires
+refusal-requires c κs = search needs
+
+same-length : tie.Need-same-length
+same-length c = search needs
+
+returns : tie.Need-returns
+returns c =
+    let s = c .before .before .before .before .before .before .before .before .before .before .before .before .before .before .before .before in
+    let e = played-as (c .before .before .before .before .before .before .before .before) in
+    let p = c .before .before .before .before .print-trace .ensures in
+    let n = traced (c .before .before .before .before .before .before .before .before) in (
+      omega (arith, p .0, put-length (p .1), n, few (c .before .before .before .before .before .before .before .before .before .before .before .before), s .pre .2 .fits),
+      fitting (c .before .before .before .before .before .before .before .before),
+      record {
+        state = ap (λ (r : Run). r .state) (sym e);
+        why = c .refusal .ensures ∙ ap (λ (r : Run). r .why) (sym e);
+        put = subst (λ (l : List ℕ). Put (s .args .out .now) 0 (c .before .before .before .before .print-trace .last .0) (c .before .before .before .before .print-trace .result) l) (ap (λ (r : Run). r .lines) (sym e)) (p .1);
+      },
     )
-
-same-length : tie.Need-same-length Inv-loop μ-loop
-same-length c = put-length (c .before .loop .inv .3 .put)
-
-returns : tie.Need-returns Inv-loop μ-loop
-returns c = let s = c .before .before .before .before .before .before .before in
-    let l = c .before .loop in
-    let e : l .counter ≡ ceil (length (s .args .bytes .now)) (s .args .t .count) = omega (arith, c .before .before .rounded-up .ensures, c .loop-test .left, l .inv .0) in
-    (omega (arith, put-length (l .inv .3 .put), l .inv .2, s .pre .fits, e), rw e at (l .inv .3))
 
 pub play-spec : {M : Type 1} → statement M
 play-spec =
     tie.close
     (tie.spec
-    Inv-loop
-    μ-loop
-    cast-size
-    cast-rounded-up
-    cast-rounded-up-2
-    rounded-up-requires
-    loop-holds
-    step-end-requires
-    sub-play-on
-    part-play-on-start
-    part-play-on-end
-    play-on-requires
-    add-counter
-    loop-less
-    loop-again
+    cast-count
+    div-whole
+    cut-requires
+    mul-end
+    array-share-prefix-masks
+    slice-aggregate-run
+    slice-aggregate-run-2
+    slice-aggregate-run-3
+    run-requires
+    array-share-prefix-trace
+    slice-aggregate-print-trace
+    print-trace-requires
+    rem-refusal
+    refusal-requires
     same-length
     returns)

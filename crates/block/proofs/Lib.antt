@@ -1,0 +1,13 @@
+pub mod ThreadLaws
+pub mod VisitLaws
+pub mod EarlyLaws
+pub mod EventLaws
+pub mod StretchLaws
+pub mod RunLaws
+pub mod WindowLaws
+pub mod JoinLaws
+pub mod PlaceLaws
+pub mod CallLaws
+pub mod TwoLaws
+pub mod RecordLaws
+pub mod NumberLaws

@@ -1,0 +1,5 @@
+pub mod Play
+pub mod Block
+pub mod Numbered
+pub mod Opened
+pub mod Worked

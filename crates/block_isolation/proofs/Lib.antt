@@ -1,0 +1,4 @@
+pub mod ByteLaws
+pub mod ShownLaws
+pub mod Isolation
+pub mod OnExample

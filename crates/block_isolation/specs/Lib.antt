@@ -1,0 +1,3 @@
+pub mod Shown
+pub mod Isolated
+pub mod Opened
