@@ -6,6 +6,7 @@ use mathlib.Core.Bool.{Bool, true, false}
 use mathlib.Core.Logic.{_↔_}
 use native.Mathlib.Decide.{decLt}
 use native.Mathlib.Omega.{arith}
+use mathlib.Core.List.{List}
 use lib.Dec.{ltb, leb}
 use borrow.Author.Tests.{le-leb, lt-leb, leb-true, leb-false, lt-ltb, le-ltb, ltb-true, ltb-false}
 use Rattle.basis.specs.Tests.{pick}
@@ -18,7 +19,9 @@ use Rattle.table.specs.Legal.{legal, Legal}
 use Rattle.table.specs.declared.Table.{Table}
 use Rattle.admission.specs.Demand.{demand}
 use Rattle.admission.specs.Bounded.{enough, length-at, bound, bounding, Is-bound, No-bound, Bound-answer, not-legal, no-thread, no-bound, within}
+use Rattle.admission.specs.Tried.{tried, count-given, Searches, gives-up, ends, goes-on}
 use Rattle.admission.proofs.DemandLaws.{demand-mono}
+use Rattle.admission.proofs.TriedLaws.{tried-given, tried-only}
 
 module _ (t : Table) (i : ℕ) where
   -- no length from the budget up to x holds its demand
@@ -101,30 +104,44 @@ module _ (t : Table) (i : ℕ) where
   pub none-exactly : (bound t i ≡ nothing) ↔ No-bound t i
   none-exactly = (λ e. none-of-bound e, λ n. bound-none n)
 
+  -- the search that starts at W finds the bound: the smallest length, or none
+  finds-from : Legal t → {x : ℕ} {xs : List ℕ} {s : Sought ℕ} → thread t i .budget ≤ x → Short x → Searches t i x xs s → bound t i ≡ s
+  finds-from g l h (gives-up x k) = bound-none (record { short = λ y a b. h y a (omega arith) })
+  finds-from g l h (ends x k d) = bound-at x (record { from-budget = l; to-deadline = k; holds = d; smallest = h })
+  finds-from g l h (goes-on x k d xs s r) = finds-from g (omega arith) (short-next g x h) r
+
+  pub search-finds : Legal t → {xs : List ℕ} {s : Sought ℕ} → Searches t i (thread t i .budget) xs s → bound t i ≡ s
+  search-finds g r = finds-from g (omega arith) short-first r
+
   -- each row of `Bound-answer` gives its answer, and one of the rows holds
-  answer-only : {w : Told} → Bound-answer t i w → bounding t i ≡ w
-  unfolding bounding pick
-  answer-only (not-legal a) = rw a
-  answer-only (no-thread a b) = rw (a, le-ltb _ _ b)
-  answer-only (no-bound a b n) = rw (a, lt-ltb _ _ b, bound-none n)
-  answer-only (within a b x s) = rw (a, lt-ltb _ _ b, bound-at x s)
+  answer-only : {w : Told} {n : ℕ} → Bound-answer t i w n → (bounding t i ≡ w) × (count-given t i ≡ n)
+  unfolding bounding count-given pick
+  answer-only (not-legal a) = (rw a, rw a)
+  answer-only (no-thread a b) = let e = le-ltb _ _ b in (rw (a, e), rw (a, e))
+  answer-only (no-bound a b s n c) = let e = lt-ltb _ _ b in (rw (a, e, bound-none s), rw (a, e) (tried-only t i c))
+  answer-only (within a b x s n c) = let e = lt-ltb _ _ b in (rw (a, e, bound-at x s), rw (a, e) (tried-only t i c))
 
-  here : {w : Told} → Bound-answer t i w → Bound-answer t i (bounding t i)
-  here r = subst (λ (w : Told). Bound-answer t i w) (sym (answer-only r)) r
+  here : {w : Told} {n : ℕ} → Bound-answer t i w n → Bound-answer t i (bounding t i) (count-given t i)
+  here {w} {n} r =
+      let e = answer-only r in
+      subst (λ (v : Told). Bound-answer t i v (count-given t i)) (sym (e .0)) (subst (λ (m : ℕ). Bound-answer t i w m) (sym (e .1)) r)
 
-  by-bound : legal t ≡ true → i < t .count → (s : Sought ℕ) → bound t i ≡ s → Bound-answer t i (bounding t i)
-  by-bound a b nothing e = here (no-bound a b (none-of-bound e))
-  by-bound a b (found x) e = here (within a b x (is-of-bound x e))
+  by-bound : legal t ≡ true → i < t .count → (s : Sought ℕ) → bound t i ≡ s → Bound-answer t i (bounding t i) (count-given t i)
+  by-bound a b nothing e = here (no-bound a b (none-of-bound e) (tried t i) (tried-given t i))
+  by-bound a b (found x) e = here (within a b x (is-of-bound x e) (tried t i) (tried-given t i))
 
-  answer-given : Bound-answer t i (bounding t i)
+  answer-given : Bound-answer t i (bounding t i) (count-given t i)
   answer-given =
       by-test (legal t)
       (λ a. by-test (ltb i (t .count)) (λ b. by-bound a (ltb-true _ _ b) (bound t i) refl) (λ b. here (no-thread a (ltb-false _ _ b))))
       (λ a. here (not-legal a))
 
-  -- what `bound_of` tells is exactly what the plain rows say
-  pub bounding-exactly : (w : Told) → (bounding t i ≡ w) ↔ Bound-answer t i w
-  bounding-exactly w = (λ e. subst (λ (v : Told). Bound-answer t i v) e answer-given, λ r. answer-only r)
+  -- what `bound_of` tells and gives is exactly what the plain rows say
+  pub bounding-exactly : (w : Told) (n : ℕ) → ((bounding t i ≡ w) × (count-given t i ≡ n)) ↔ Bound-answer t i w n
+  bounding-exactly w n = (
+    λ e. subst (λ (v : Told). Bound-answer t i v n) (e .0) (subst (λ (m : ℕ). Bound-answer t i (bounding t i) m) (e .1) answer-given),
+    λ r. answer-only r,
+  )
 
   -- a bound is from 1 to 60,000, so that 0 can stand for none and a larger number for a refusal
   pub bound-positive : Legal t → i < t .count → (x : ℕ) → bound t i ≡ found x → 1 ≤ x

@@ -1,9 +1,11 @@
 pub mod SumLaws
 pub mod QuotientLaws
 pub mod DemandLaws
+pub mod TriedLaws
 pub mod BoundLaws
 pub mod UpperLaws
 pub mod AdmitLaws
+pub mod WorstLaws
 pub mod ProhibitionLaws
 pub mod UniqueLaws
 pub mod LargestLaws

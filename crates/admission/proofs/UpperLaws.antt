@@ -1,11 +1,13 @@
--- A bound does not depend on the threads below: two legal tables that agree on a thread and on those above it give it the same bound.
-use Prim.Native.Nat.{ℕ, zero, suc, _+_, _≤_, _<_}
+-- A bound does not depend on the threads below: two legal tables that agree on a thread and on those above it give it the same bound,
+-- after as many lengths.
+use Prim.Native.Nat.{ℕ, zero, suc, _+_, _-_, _≤_, _<_}
 use mathlib.Core.Path.{_≡_, refl, sym, _∙_, ap}
 use mathlib.Core.Bool.{false}
 use native.Mathlib.Decide.{decLt}
 use native.Mathlib.Omega.{arith}
 use borrow.Author.Tests.{lt-ltb, ltb-true, ltb-false}
 use lib.Dec.{ltb}
+use lib.ListN.{length}
 use Rattle.basis.specs.Tests.{pick}
 use Rattle.basis.specs.Search.{Sought, first}
 use Rattle.basis.proofs.TestLaws.{by-test, fails}
@@ -16,6 +18,7 @@ use Rattle.table.specs.declared.Thread.{Thread}
 use Rattle.table.proofs.LegalLaws.{legal-complete}
 use Rattle.admission.specs.Demand.{sum, share, demand}
 use Rattle.admission.specs.Bounded.{enough, length-at, bound, bounding, Same-above}
+use Rattle.admission.specs.Tried.{most-tried, lengths-from, lengths, tried, count-given}
 use Rattle.admission.proofs.SumLaws.{sum-same, sum-padded}
 use Rattle.admission.proofs.DemandLaws.{share-other}
 
@@ -65,6 +68,20 @@ module _ (t u : Table) (i : ℕ) (s : Same-above t u i) where
       let d : thread t i .deadline ≡ thread u i .deadline = ap (λ (th : Thread). th .deadline) (s .own) in
       rw d (first-same (length-at t i) (length-at u i) (suc (thread u i .deadline)) (λ x. same-length g k x))
 
+  same-lengths : Legal t → Legal u → (n x : ℕ) → lengths-from t i n x ≡ lengths-from u i n x
+  unfolding lengths-from
+  same-lengths g k zero x = refl
+  same-lengths g k (suc n) x =
+      let d : thread t i .deadline ≡ thread u i .deadline = ap (λ (th : Thread). th .deadline) (s .own) in
+      rw (demand-by-upper g k x, d, same-lengths g k n (demand u i x))
+
+  pub tried-by-upper : Legal t → Legal u → tried t i ≡ tried u i
+  unfolding tried lengths most-tried
+  tried-by-upper g k =
+      let d : thread t i .deadline ≡ thread u i .deadline = ap (λ (th : Thread). th .deadline) (s .own) in
+      let w : thread t i .budget ≡ thread u i .budget = ap (λ (th : Thread). th .budget) (s .own) in
+      rw (d, w) (ap length (same-lengths g k (thread u i .deadline - thread u i .budget + 1) (thread u i .budget)))
+
   -- a thread of one table is one of the other, since a place that is not in use has no budget
   used : Legal t → Legal u → i < t .count → i < u .count
   used g k l = go (decLt i (u .count))
@@ -78,13 +95,23 @@ module _ (t u : Table) (i : ℕ) (s : Same-above t u i) where
 back : (t u : Table) (i : ℕ) → Same-above t u i → Same-above u t i
 back t u i s = record { own = sym (s .own); one = λ h l. sym (s .other h l); other = λ h l. sym (s .one h l) }
 
--- What `bound_of` tells does not depend on them either.
-pub bounding-by-upper : (t u : Table) (i : ℕ) → Legal t → Legal u → Same-above t u i → bounding t i ≡ bounding u i
-unfolding bounding pick
-bounding-by-upper t u i g k s =
-    by-test (ltb i (t .count))
-    (λ e. let m : i < u .count = used t u i s g k (ltb-true _ _ e) in
-    rw (legal-complete t g, legal-complete u k, e, lt-ltb _ _ m, bound-by-upper t u i s g k))
-    (λ e. let f : ltb i (u .count) ≡ false
-    = fails (ltb i (u .count)) (λ m. omega (arith, ltb-false i (t .count) e, used u t i (back t u i s) k g (ltb-true _ _ m))) in
-    rw (legal-complete t g, legal-complete u k, e, f))
+-- What `bound_of` tells and gives does not depend on them either.
+module _ (t u : Table) (i : ℕ) (g : Legal t) (k : Legal u) (s : Same-above t u i) where
+  lacked : ltb i (t .count) ≡ false → ltb i (u .count) ≡ false
+  lacked e = fails (ltb i (u .count)) (λ m. omega (arith, ltb-false i (t .count) e, used u t i (back t u i s) k g (ltb-true _ _ m)))
+
+  pub bounding-by-upper : bounding t i ≡ bounding u i
+  unfolding bounding pick
+  bounding-by-upper =
+      by-test (ltb i (t .count))
+      (λ e. let m : i < u .count = used t u i s g k (ltb-true _ _ e) in
+      rw (legal-complete t g, legal-complete u k, e, lt-ltb _ _ m, bound-by-upper t u i s g k))
+      (λ e. rw (legal-complete t g, legal-complete u k, e, lacked e))
+
+  pub count-by-upper : count-given t i ≡ count-given u i
+  unfolding count-given pick
+  count-by-upper =
+      by-test (ltb i (t .count))
+      (λ e. let m : i < u .count = used t u i s g k (ltb-true _ _ e) in
+      rw (legal-complete t g, legal-complete u k, e, lt-ltb _ _ m, tried-by-upper t u i s g k))
+      (λ e. rw (legal-complete t g, legal-complete u k, e, lacked e))

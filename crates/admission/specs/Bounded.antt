@@ -11,6 +11,7 @@ use Rattle.table.specs.Threads.{thread}
 use Rattle.table.specs.Legal.{legal}
 use Rattle.table.specs.declared.Table.{Table}
 use Rattle.admission.specs.Demand.{demand}
+use Rattle.admission.specs.Tried.{Is-count}
 use Rattle.admission.specs.declared.Bound.{Bound}
 use Rattle.admission.specs.declared.Bound.the-variants.{Within, None, NotLegal, NoThread}
 use Rattle.admission.specs.declared.Reached.{Reached}
@@ -59,16 +60,16 @@ pub record Is-bound (t : Table) (i x : ℕ) : Type 0 where
 pub record No-bound (t : Table) (i : ℕ) : Type 0 where
   pub short : (y : ℕ) → thread t i .budget ≤ y → y ≤ thread t i .deadline → y < demand t i y
 
--- What `bound_of` tells, in plain words: one row for each case, and an answer is given in its row only.
-pub data Bound-answer (t : Table) (i : ℕ) : Told → Type 0 where
-  -- 11: the table is not legal
-  not-legal : legal t ≡ false → Bound-answer t i (refused 11)
-  -- 15: it has no such thread
-  no-thread : legal t ≡ true → t .count ≤ i → Bound-answer t i (refused 15)
-  -- the thread has no bound
-  no-bound : legal t ≡ true → i < t .count → No-bound t i → Bound-answer t i (answered [])
-  -- its bound is x
-  within : legal t ≡ true → i < t .count → (x : ℕ) → Is-bound t i x → Bound-answer t i (answered (x ∷ []))
+-- What `bound_of` tells, and the count beside it, in plain words: one row for each case, and an answer is given in its row only.
+pub data Bound-answer (t : Table) (i : ℕ) : Told → ℕ → Type 0 where
+  -- 11 and 0: the table is not legal
+  not-legal : legal t ≡ false → Bound-answer t i (refused 11) 0
+  -- 15 and 0: it has no such thread
+  no-thread : legal t ≡ true → t .count ≤ i → Bound-answer t i (refused 15) 0
+  -- the thread has no bound, and its search tried n lengths
+  no-bound : legal t ≡ true → i < t .count → No-bound t i → (n : ℕ) → Is-count t i n → Bound-answer t i (answered []) n
+  -- its bound is x, and its search tried n lengths
+  within : legal t ≡ true → i < t .count → (x : ℕ) → Is-bound t i x → (n : ℕ) → Is-count t i n → Bound-answer t i (answered (x ∷ [])) n
 
 -- Two tables agree on thread i and, place by place, on every thread that stands above it in one of them.
 pub record Same-above (t u : Table) (i : ℕ) : Type 0 where

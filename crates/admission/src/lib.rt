@@ -1,7 +1,9 @@
 // Admission: the bound of each thread by time-demand analysis, and the prohibition time beside it.
 ghost use mathlib.Core.Path.{_≡_};
 ghost use Rattle.admission.specs.Bounded.{told, bounding};
-ghost use Rattle.admission.specs.Admit.{told as told-admitting, admitting, bounds-given};
+ghost use Rattle.admission.specs.Tried.{count-given};
+ghost use Rattle.admission.specs.Admit.{told as told-admitting, admitting, bounds-given, counts-given};
+ghost use Rattle.admission.specs.Worst.{told as told-worst, worst-given};
 ghost use Rattle.admission.specs.Prohibition.{told as told-time, prohibiting};
 use table::Table;
 use table::legal;
@@ -9,15 +11,23 @@ use table::legal;
 mod bounds;
 mod demand;
 mod prohibited;
+mod worst;
 
 use bounds::admit_legal;
 use bounds::find_bound;
 use prohibited::prohibition_time;
+use worst::worst_of;
 
 // Where the search for a bound ended: at a length that holds its demand, or nowhere up to the deadline.
 pub enum Reached {
     At(u16),
     Nowhere,
+}
+
+// A search for a bound: where it ended, and the number of lengths whose demand it worked out.
+pub struct Search {
+    pub reached: Reached,
+    pub tried: u16,
 }
 
 // The bound of a thread.
@@ -28,6 +38,12 @@ pub enum Bound {
     NoThread,
 }
 
+// The bound, and the number of lengths whose demand was worked out: 0 on a refusal.
+pub struct Searched {
+    pub bound: Bound,
+    pub tried: u16,
+}
+
 // Every thread has a bound, or the first in table order that has none.
 pub enum Admitting {
     Admitted,
@@ -35,10 +51,18 @@ pub enum Admitting {
     NotLegal,
 }
 
-// The bounds are zero unless the table is admitted, and past its last thread.
+// The bounds are zero unless the table is admitted, and past its last thread. `tried` has, of each thread searched, the number of
+// lengths whose demand was worked out: of all threads, or up to and with the first that has no bound; 0 for the others.
 pub struct Admission {
     pub answer: Admitting,
     pub bounds: [u16; 32],
+    pub tried: [u16; 32],
+}
+
+// The most lengths that the searches of a table can try.
+pub enum WorstCount {
+    Lengths(u32),
+    NotLegal,
 }
 
 // The prohibition time of a thread.
@@ -50,32 +74,57 @@ pub enum ProhibitionTime {
 
 // All bounds, or the first thread that has none; refuses with 11.
 pub fn admit(t: Table) -> Admission
-    ensures { λ r. ⌜ (told-admitting (r .answer) ≡ admitting t) × (r .bounds ≡ bounds-given t) ⌝ }
+    ensures { λ r. ⌜ (told-admitting (r .answer) ≡ admitting t) × (r .bounds ≡ bounds-given t) × (r .tried ≡ counts-given t) ⌝ }
 {
     if !legal(t) {
         return Admission {
             answer: Admitting::NotLegal,
             bounds: [0; 32],
+            tried: [0; 32],
         };
     }
     admit_legal(t)
 }
 
 // The bound of thread i, or none; refuses with 11, 15.
-pub fn bound_of(t: Table, i: u8) -> Bound
-    ensures { λ r. ⌜ told r ≡ bounding t i ⌝ }
+pub fn bound_of(t: Table, i: u8) -> Searched
+    ensures { λ r. ⌜ (told (r .bound) ≡ bounding t i) × (r .tried ≡ count-given t i) ⌝ }
 {
     if !legal(t) {
-        return Bound::NotLegal;
+        return Searched {
+            bound: Bound::NotLegal,
+            tried: 0,
+        };
     }
     if t.count <= i {
-        return Bound::NoThread;
+        return Searched {
+            bound: Bound::NoThread,
+            tried: 0,
+        };
     }
-    let found = find_bound(t, i);
+    let search = find_bound(t, i);
+    let tried = search.tried;
+    let found = search.reached;
     match found {
-        Reached::At(x) => Bound::Within(x),
-        Reached::Nowhere => Bound::None,
+        Reached::At(x) => Searched {
+            bound: Bound::Within(x),
+            tried,
+        },
+        Reached::Nowhere => Searched {
+            bound: Bound::None,
+            tried,
+        },
     }
+}
+
+// The worst count of a table, with no search: D - W + 1 lengths for each thread; refuses with 11.
+pub fn worst_count(t: Table) -> WorstCount
+    ensures { λ r. ⌜ told-worst r ≡ worst-given t ⌝ }
+{
+    if !legal(t) {
+        return WorstCount::NotLegal;
+    }
+    WorstCount::Lengths(worst_of(t))
 }
 
 // The prohibition time of thread l; refuses with 11, 15.

@@ -45,8 +45,10 @@ use Rattle.block_isolation.proofs.Isolation.{demand-3-blocks}
 use Rattle.isolation.proofs.Isolation.{telling-chosen, telling-refused, demand-3, state-always-shown}
 use Rattle.host.proofs.HostLaws.{mark-refused-exactly, bound-refused-exactly}
 use Rattle.admission.proofs.DemandLaws.{demand-exactly}
-use Rattle.admission.proofs.BoundLaws.{bound-exactly, none-exactly, bounding-exactly}
+use Rattle.admission.proofs.TriedLaws.{tried-exactly, tried-most}
+use Rattle.admission.proofs.BoundLaws.{bound-exactly, none-exactly, search-finds, bounding-exactly}
 use Rattle.admission.proofs.AdmitLaws.{admitting-exactly}
+use Rattle.admission.proofs.WorstLaws.{worst-refused, worst-answered, worst-exactly, counts-within}
 use Rattle.admission.proofs.ProhibitionLaws.{prohibition-exactly, prohibiting-exactly}
 use Rattle.demands.specs.Demand1.{Demand-1}
 use Rattle.demands.specs.Demand2.{Demand-2}
@@ -89,6 +91,8 @@ demand-1-holds = record {
   state-numbered = state-number-exactly;
   bound-answered = bounding-exactly;
   admission-answered = admitting-exactly;
+  worst-refused = worst-refused;
+  worst-answered = worst-answered;
   prohibition-answered = prohibiting-exactly;
   host-mark-refused = mark-refused-exactly;
   host-bound-refused = bound-refused-exactly;
@@ -174,6 +178,11 @@ demand-2-holds = record {
   demands = demand-exactly;
   bounds = bound-exactly;
   no-bounds = none-exactly;
+  counts = tried-exactly;
+  counts-most = tried-most;
+  search-finds = λ t i g xs s r. search-finds t i g r;
+  counts-within = counts-within;
+  worsts = worst-exactly;
   prohibitions = prohibition-exactly;
 }
 

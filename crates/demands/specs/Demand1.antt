@@ -3,7 +3,7 @@
 -- call ends and never traps is what the proof of each operation says, none of which has a `requires`.
 use Prim.Native.Nat.{ℕ, _*_, _^_, _≤_, _<_}
 use mathlib.Core.Path.{_≡_}
-use mathlib.Core.List.{List, []}
+use mathlib.Core.List.{List, [], _∷_}
 use mathlib.Core.Logic.{_≢_, _↔_}
 use mathlib.Core.Bool.{true, false}
 use lib.ListN.{length, getD, replicate}
@@ -32,7 +32,9 @@ use Rattle.sight.specs.Shown.{showing, showing-state, threads-shown}
 use Rattle.sight.specs.Numbered.{View-numbered, State-numbered}
 use Rattle.host.specs.Host.{refusal, thread-mark, thread-bound, Refuses}
 use Rattle.admission.specs.Bounded.{bounding, Bound-answer}
-use Rattle.admission.specs.Admit.{admitting, bounds-given, Admit-answer}
+use Rattle.admission.specs.Tried.{count-given}
+use Rattle.admission.specs.Admit.{admitting, bounds-given, counts-given, Admit-answer}
+use Rattle.admission.specs.Worst.{worst, worst-given}
 use Rattle.admission.specs.Prohibition.{prohibiting, Prohibition-answer}
 
 pub record Demand-1 : Type 0 where
@@ -59,8 +61,11 @@ pub record Demand-1 : Type 0 where
   pub writer-numbered : (b : List ℕ) (at : ℕ) (t : Table) (n : ℕ) → (writing b at t .number ≡ n) ↔ Write-numbered b at t n
   pub view-numbered : (t : Table) (d : ℕ) (a : Answer) (n : ℕ) → (showing t d a .number ≡ n) ↔ View-numbered t d n
   pub state-numbered : (t : Table) (s : State) (d n : ℕ) → (showing-state t s d .number ≡ n) ↔ State-numbered t s d n
-  pub bound-answered : (t : Table) (i : ℕ) (w : Told) → (bounding t i ≡ w) ↔ Bound-answer t i w
-  pub admission-answered : (t : Table) (w : Told) (bs : List ℕ) → ((admitting t ≡ w) × (bounds-given t ≡ bs)) ↔ Admit-answer t w bs
+  pub bound-answered : (t : Table) (i : ℕ) (w : Told) (n : ℕ) → ((bounding t i ≡ w) × (count-given t i ≡ n)) ↔ Bound-answer t i w n
+  pub admission-answered : (t : Table) (w : Told) (bs ns : List ℕ)
+      → ((admitting t ≡ w) × (bounds-given t ≡ bs) × (counts-given t ≡ ns)) ↔ Admit-answer t w bs ns
+  pub worst-refused : (t : Table) → (worst-given t ≡ refused 11) ↔ (legal t ≡ false)
+  pub worst-answered : (t : Table) → legal t ≡ true → worst-given t ≡ answered (worst t ∷ [])
   pub prohibition-answered : (t : Table) (l : ℕ) (w : Told) → (prohibiting t l ≡ w) ↔ Prohibition-answer t l w
   pub host-mark-refused : (s : List ℕ) (i n : ℕ) → (thread-mark s i ≡ refusal n) ↔ Refuses s i n
   pub host-bound-refused : (s : List ℕ) → Bytes s → (i n : ℕ) → (thread-bound s i ≡ refusal n) ↔ Refuses s i n

@@ -9,7 +9,7 @@ use mathlib.Core.Bool.{Bool, true, false}
 use lib.ListN.{length, getD, take, drop}
 use lib.Dec.{eqb}
 use Rattle.basis.specs.Tests.{or}
-use Rattle.basis.specs.Search.{found, nothing}
+use Rattle.basis.specs.Search.{Sought, found, nothing}
 use Rattle.basis.specs.Told.{answered}
 use Rattle.basis.specs.Ceil.{ceil}
 use Rattle.basis.specs.Spaced.{happened}
@@ -42,7 +42,10 @@ use Rattle.scheduler.specs.Taken.{Taken, took, mask-ok, taken}
 use Rattle.scheduler.specs.Calls.{Whole-steps, calls, steps}
 use Rattle.block.specs.Block.{byte-of, inputs, recorded}
 use Rattle.admission.specs.Bounded.{bound, Is-bound, No-bound}
-use Rattle.admission.specs.Demand.{demand, Sum-of, Demands}
+use Rattle.admission.specs.Demand.{demand, sum, Sum-of, Demands}
+use Rattle.admission.specs.Tried.{tried, Searches, Is-count}
+use Rattle.admission.specs.Admit.{counts-given}
+use Rattle.admission.specs.Worst.{worst}
 use Rattle.admission.specs.Prohibition.{prohibition, Prohibits}
 
 pub record Demand-2 : Type 0 where
@@ -201,5 +204,12 @@ pub record Demand-2 : Type 0 where
   pub demands : (t : Table) (i x n : ℕ) → (demand t i x ≡ thread t i .budget + n) ↔ Sum-of (Demands t i x) (t .count) n
   pub bounds : (t : Table) (i x : ℕ) → (bound t i ≡ found x) ↔ Is-bound t i x
   pub no-bounds : (t : Table) (i : ℕ) → (bound t i ≡ nothing) ↔ No-bound t i
+  -- The count of a search is the number of lengths in its sequence, at most D - W + 1; what the sequence ends with is still the bound. All counts
+  -- of an admission are together at most the worst count, which is the sum of D - W + 1 over the threads.
+  pub counts : (t : Table) (i n : ℕ) → (tried t i ≡ n) ↔ Is-count t i n
+  pub counts-most : (t : Table) (i : ℕ) → tried t i ≤ thread t i .deadline - thread t i .budget + 1
+  pub search-finds : (t : Table) (i : ℕ) → Legal t → (xs : List ℕ) (s : Sought ℕ) → Searches t i (thread t i .budget) xs s → bound t i ≡ s
+  pub counts-within : (t : Table) → sum 32 (λ i. getD (counts-given t) i 0) ≤ worst t
+  pub worsts : (t : Table) (n : ℕ) → (worst t ≡ n) ↔ Sum-of (λ i m. thread t i .deadline - thread t i .budget + 1 ≡ m) (t .count) n
   -- The prohibition time is the sum of what each thread brings.
   pub prohibitions : (t : Table) (l time : ℕ) → (prohibition t l ≡ time) ↔ Sum-of (Prohibits t l) (t .count) time

@@ -104,6 +104,7 @@ pub extern "C" fn mikuzerao_bound(bytes: &[u8], thread: u32) -> u32
     if t.count as u32 <= thread {
         return refused(15);
     }
-    let b = admission::bound_of(t, thread as u8);
+    let s = admission::bound_of(t, thread as u8);
+    let b = s.bound;
     bound_number(b)
 }

@@ -1,4 +1,4 @@
-// A second admission, written from document 01 alone: a plain search over every length.
+// A second admission, written from documents 01 and 02 alone: a plain search over every length.
 use table::Table;
 use table::Thread;
 
@@ -58,6 +58,29 @@ fn plain_bound(t: Table, i: u8) -> u16 {
     smallest(t, own, own.budget, own.deadline)
 }
 
+// How many lengths from low to high are tried, on a pass over all of them: low is, and so is each that is the demand of a length tried,
+// up to the first whose demand is at most itself.
+fn tried_between(t: Table, own: Thread, low: u16, high: u16) -> u16 {
+    let mut awaited = low as u64;
+    let mut tried: u16 = 0;
+    for x in low..=high {
+        if x as u64 == awaited {
+            awaited = demand(t, own, x);
+            tried = std::num::wrapping_add_u16(tried, 1);
+            if is_held(awaited, x) {
+                return tried;
+            }
+        }
+    }
+    tried
+}
+
+// From W to D.
+pub fn lengths_tried(t: Table, i: u8) -> u16 {
+    let own = t.threads[i as usize % 32];
+    tried_between(t, own, own.budget, own.deadline)
+}
+
 // Whether there is a thread i, as the number of the refusal or 0.
 fn refusal(t: Table, i: u8) -> u32 {
     if !rival_table::legal(t) {
@@ -79,33 +102,56 @@ pub fn bound(t: Table, i: u8) -> u32 {
 }
 
 // The first thread without a bound, 32 where the table is admitted and 33 where it is refused; all bounds where it is admitted,
-// else zeros.
+// else zeros; the lengths tried for each thread that was searched.
 pub struct Admitted {
     pub first: u8,
     pub bounds: [u16; 32],
+    pub tried: [u16; 32],
 }
 
-fn without(first: u8) -> Admitted {
+fn without(first: u8, tried: [u16; 32]) -> Admitted {
     Admitted {
         first,
         bounds: [0; 32],
+        tried,
     }
 }
 
 pub fn admit(t: Table) -> Admitted {
+    let mut bounds = [0u16; 32];
+    let mut tried = [0u16; 32];
     if !rival_table::legal(t) {
-        return without(33);
+        return without(33, tried);
     }
     let count = t.count;
-    let mut bounds = [0u16; 32];
     for i in 0..count {
         let x = plain_bound(t, i);
+        tried[i as usize % 32] = lengths_tried(t, i);
         if x == 0 {
-            return without(i);
+            return without(i, tried);
         }
         bounds[i as usize % 32] = x;
     }
-    Admitted { first: 32, bounds }
+    Admitted {
+        first: 32,
+        bounds,
+        tried,
+    }
+}
+
+// The most lengths that the searches of a table can try, or 100,000,000 and the number of the refusal: all deadlines less all budgets,
+// and one for each thread.
+pub fn worst(t: Table) -> u32 {
+    if !rival_table::legal(t) {
+        return 100000011;
+    }
+    let mut sum = t.count as u32;
+    for i in 0..32usize {
+        let f = t.threads[i];
+        sum = std::num::wrapping_add_u32(sum, f.deadline as u32);
+        sum = std::num::wrapping_sub_u32(sum, f.budget as u32);
+    }
+    sum
 }
 
 // What thread h adds to the prohibition time of a thread below it, if it is marked: B of h for each P of the lower one that it
@@ -132,20 +178,6 @@ pub fn prohibition(t: Table, l: u8) -> u64 {
         sum = std::num::wrapping_add_u64(sum, prohibited_by(f, own, m.set));
     }
     sum
-}
-
-// The lengths whose demand a search works out that puts the demand in place of each length.
-pub fn lengths_tried(t: Table, i: u8) -> u32 {
-    let own = t.threads[i as usize % 32];
-    let mut x = own.budget;
-    for tried in 1..60001u32 {
-        let next = demand(t, own, x);
-        if is_held(next, x) | !is_held(next, own.deadline) {
-            return tried;
-        }
-        x = (next % 65536) as u16;
-    }
-    60001
 }
 
 // Whether a table has a long period, so that the plain search takes long.

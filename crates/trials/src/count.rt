@@ -2,6 +2,7 @@
 use admission::Admitting;
 use admission::Bound;
 use admission::ProhibitionTime;
+use admission::WorstCount;
 use table::Table;
 
 pub struct Tally {
@@ -48,8 +49,7 @@ fn admit_number(a: Admitting) -> u8 {
 }
 
 // The bound, 0 for none, or 100,000 and the refusal.
-fn bound_number(t: Table, i: u8) -> u32 {
-    let b = admission::bound_of(t, i);
+fn bound_number(b: Bound) -> u32 {
     match b {
         Bound::Within(x) => x as u32,
         Bound::None => 0,
@@ -68,12 +68,30 @@ fn time_number(t: Table, l: u8) -> u64 {
     }
 }
 
+// The worst count, or 100,000,000 and the refusal.
+fn worst_number(t: Table) -> u32 {
+    let w = admission::worst_count(t);
+    match w {
+        WorstCount::Lengths(n) => n,
+        WorstCount::NotLegal => 100000011,
+    }
+}
+
 fn same(a: [u16; 32], b: [u16; 32]) -> bool {
     let mut same = true;
     for i in 0..32usize {
         same = same & (a[i] == b[i]);
     }
     same
+}
+
+// All counts of an admission together.
+fn together(counts: [u16; 32]) -> u32 {
+    let mut sum = 0u32;
+    for i in 0..32usize {
+        sum = std::num::wrapping_add_u32(sum, counts[i] as u32);
+    }
+    sum
 }
 
 // A search works out at most D - W + 1 demands.
@@ -87,15 +105,19 @@ fn lengths_tried(t: Table, i: u8, bound: u32) -> u32 {
     if bound >= 100000 {
         return 0;
     }
-    rival_bounds::lengths_tried(t, i)
+    rival_bounds::lengths_tried(t, i) as u32
 }
 
 // Both calls that name a thread.
 fn thread(y: Tally, t: Table, i: u8) -> Tally {
+    let ours = admission::bound_of(t, i);
+    let b = ours.bound;
     let bound = rival_bounds::bound(t, i);
     let time = rival_bounds::prohibition(t, i);
     let tried = lengths_tried(t, i, bound);
-    let good = (bound_number(t, i) == bound) & (time_number(t, i) == time);
+    let good = (bound_number(b) == bound)
+        & (ours.tried as u32 == tried)
+        & (time_number(t, i) == time);
     let short = (bound >= 100000) | is_short(t, i, tried);
     let mut z = y;
     z.found = more_if(z.found, (bound != 0) & (bound < 100000));
@@ -115,7 +137,16 @@ fn is_same(t: Table, theirs: rival_bounds::Admitted) -> bool {
     let a = ours.answer;
     let x = ours.bounds;
     let b = theirs.bounds;
-    (admit_number(a) == theirs.first) & same(x, b)
+    let n = ours.tried;
+    let m = theirs.tried;
+    (admit_number(a) == theirs.first) & same(x, b) & same(n, m)
+}
+
+// Whether the worst count is the plain one, and the counts are together at most that.
+fn is_within(t: Table, theirs: rival_bounds::Admitted) -> bool {
+    let counts = theirs.tried;
+    let worst = rival_bounds::worst(t);
+    (worst_number(t) == worst) & (together(counts) <= worst)
 }
 
 // All threads of the table, and two that it lacks.
@@ -126,7 +157,7 @@ pub fn table(y: Tally, t: Table) -> Tally {
     z.admitted = more_if(z.admitted, theirs.first == 32);
     z.without = more_if(z.without, theirs.first < 32);
     z.refused = more_if(z.refused, theirs.first == 33);
-    z.wrong = more_if(z.wrong, !is_same(t, theirs));
+    z.wrong = more_if(z.wrong, !is_same(t, theirs) | !is_within(t, theirs));
     for i in 0..count {
         z = thread(z, t, i);
     }

@@ -1,4 +1,4 @@
-use Rattle.admission.specs.Admit.{admitting, bounds-given}
+use Rattle.admission.specs.Admit.{admitting, bounds-given, counts-given}
 use Rattle.table.specs.Legal.{legal, Sized}
 use Rattle.table.proofs.LegalLaws.{legal-sound}
 use Rattle.basis.specs.Tests.{pick}
@@ -26,15 +26,18 @@ legal-requires : tie.Need-legal-requires
 legal-requires c κs = search needs
 
 returns : tie.Need-returns
-unfolding admitting bounds-given pick
-returns c = let e = sym (c .before .legal .ensures) ∙ not-true _ (c .if1 .taken) in (rw e, rw e)
+unfolding admitting bounds-given counts-given pick
+returns c = let e = sym (c .before .legal .ensures) ∙ not-true _ (c .if1 .taken) in (rw e, rw e, rw e)
 
 admit-legal-requires : tie.Need-admit-legal-requires
 admit-legal-requires c κs = legal-sound _ (sized (c .before .before)) (lawful c)
 
 returns-2 : tie.Need-returns-2
-unfolding admitting bounds-given pick
-returns-2 c = let e = lawful (c .before) in (rw e (c .admit-legal .ensures .0), rw e (c .admit-legal .ensures .1))
+unfolding admitting bounds-given counts-given pick
+returns-2 c =
+    let e = lawful (c .before) in
+    let a = c .admit-legal .ensures in
+    (rw e (a .0), rw e (a .1), rw e (a .2))
 
 pub admit-spec : {M : Type 1} → statement M
 admit-spec = tie.close (tie.spec legal-requires returns admit-legal-requires returns-2)

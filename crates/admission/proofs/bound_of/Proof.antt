@@ -1,4 +1,5 @@
 use Rattle.admission.specs.Bounded.{bounding, sought, sought-told}
+use Rattle.admission.specs.Tried.{count-given}
 use Rattle.table.specs.Legal.{legal, Sized}
 use Rattle.table.proofs.LegalLaws.{legal-sound}
 use Rattle.basis.specs.Tests.{pick}
@@ -27,14 +28,16 @@ legal-requires : tie.Need-legal-requires
 legal-requires c κs = search needs
 
 returns : tie.Need-returns
-unfolding bounding pick
-returns c = rw (sym (c .before .legal .ensures) ∙ not-true _ (c .if1 .taken))
+unfolding bounding count-given pick
+returns c = let e = sym (c .before .legal .ensures) ∙ not-true _ (c .if1 .taken) in (rw e, rw e)
 
 returns-2 : tie.Need-returns-2
-unfolding bounding pick
+unfolding bounding count-given pick
 returns-2 c =
     let a = c .before .before .before .before .args in
-    rw (lawful (c .before .before), le-ltb (a .i) (a .t .count) (omega arith))
+    let e = lawful (c .before .before) in
+    let l = le-ltb (a .i) (a .t .count) (omega arith) in
+    (rw (e, l), rw (e, l))
 
 find-bound-requires : tie.Need-find-bound-requires
 find-bound-requires c κs =
@@ -48,16 +51,20 @@ enum-told : tie.Need-enum-told
 enum-told c = search needs
 
 returns-3 : tie.Need-returns-3
-unfolding bounding pick
+unfolding bounding count-given pick
 returns-3 c =
-    rw (lawful (c .before .before .before .before .before .before), lt-ltb _ _ (c .before .before .before .before .if2 .left), ← c .before .before .before .find-bound .ensures)
-    (sym (ap (λ r. sought-told (sought r)) (c .before .found .given .1)))
+    let e = lawful (c .before .before .before .before .before .before) in
+    let l = lt-ltb _ _ (c .before .before .before .before .if2 .left) in
+    let f = c .before .before .before .find-bound .ensures in
+    (rw (e, l, ← f .0) (sym (ap (λ r. sought-told (sought r)) (c .before .found .given .1))), rw (e, l) (f .1))
 
 returns-4 : tie.Need-returns-4
-unfolding bounding pick
+unfolding bounding count-given pick
 returns-4 c =
-    rw (lawful (c .before .before .before .before .before), lt-ltb _ _ (c .before .before .before .if2 .left), ← c .before .before .find-bound .ensures)
-    (sym (ap (λ r. sought-told (sought r)) (c .enum-told .given .1)))
+    let e = lawful (c .before .before .before .before .before) in
+    let l = lt-ltb _ _ (c .before .before .before .if2 .left) in
+    let f = c .before .before .find-bound .ensures in
+    (rw (e, l, ← f .0) (sym (ap (λ r. sought-told (sought r)) (c .enum-told .given .1))), rw (e, l) (f .1))
 
 pub bound-of-spec : {M : Type 1} → statement M
 bound-of-spec =

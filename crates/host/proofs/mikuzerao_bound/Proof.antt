@@ -59,7 +59,7 @@ bound-number-requires c κs = search needs
 
 returns-3 : tie.Need-returns-3
 unfolding thread-bound bound-number
-returns-3 c = let n = c .before .before .before .before .before .before in (c .bound-number .ensures ∙ rw (c .before .bound-of .ensures, counted n) (sym (answering _ _ _ (sym (number n) ∙ c .before .before .before .before .before .if1 .left) (rw (counted n) at (c .before .before .if2 .left)))), held n)
+returns-3 c = let n = c .before .before .before .before .before .before in (c .bound-number .ensures ∙ rw (c .before .bound-of .ensures .0, counted n) (sym (answering _ _ _ (sym (number n) ∙ c .before .before .before .before .before .if1 .left) (rw (counted n) at (c .before .before .if2 .left)))), held n)
 
 pub mikuzerao-bound-spec : {M : Type 1} → statement M
 mikuzerao-bound-spec =

@@ -5,10 +5,10 @@ use Rattle.rival_bounds.proofs.admit.Statement.{statement}
 use Rattle.rival_bounds.proofs.admit.Tie as tie
 
 abbrev Inv-loop : tie.InvT-loop
-Inv-loop t count bounds₀ i₀ bounds i = Unit {0}
+Inv-loop t bounds₀ tried₀ count i₀ bounds tried i = Unit {0}
 
 abbrev μ-loop : tie.MeasureT-loop
-μ-loop t count bounds₀ i₀ bounds i = count - i
+μ-loop t bounds₀ tried₀ count i₀ bounds tried i = count - i
 
 legal-requires : tie.Need-legal-requires Inv-loop μ-loop
 legal-requires c κs = search needs
@@ -24,6 +24,18 @@ loop-holds c = search needs
 
 plain-bound-requires : tie.Need-plain-bound-requires Inv-loop μ-loop
 plain-bound-requires c κs = search needs
+
+lengths-tried-requires : tie.Need-lengths-tried-requires Inv-loop μ-loop
+lengths-tried-requires c κs = search needs
+
+cast-tried : tie.Need-cast-tried Inv-loop μ-loop
+cast-tried c = search needs
+
+mul-tried : tie.Need-mul-tried Inv-loop μ-loop
+mul-tried c = search needs
+
+array-write-tried : tie.Need-array-write-tried Inv-loop μ-loop
+array-write-tried c = search needs
 
 without-requires-2 : tie.Need-without-requires-2 Inv-loop μ-loop
 without-requires-2 c κs = search needs
@@ -63,6 +75,10 @@ admit-spec =
     returns
     loop-holds
     plain-bound-requires
+    lengths-tried-requires
+    cast-tried
+    mul-tried
+    array-write-tried
     without-requires-2
     returns-2
     cast-bounds

@@ -28,6 +28,9 @@ more-if-requires-3 c κs = search needs
 is-same-requires : tie.Need-is-same-requires Inv-loop μ-loop
 is-same-requires c κs = search needs
 
+is-within-requires : tie.Need-is-within-requires Inv-loop μ-loop
+is-within-requires c κs = search needs
+
 more-if-requires-4 : tie.Need-more-if-requires-4 Inv-loop μ-loop
 more-if-requires-4 c κs = search needs
 
@@ -64,6 +67,7 @@ table-spec =
     more-if-requires-2
     more-if-requires-3
     is-same-requires
+    is-within-requires
     more-if-requires-4
     loop-holds
     thread-requires
