@@ -1,8 +1,8 @@
--- Laws of inputs taken in turn: how many answers, two lists one after the other, and what two runs have in common.
-use Prim.Native.Nat.{ℕ, suc}
+-- Laws of inputs taken in turn: how many answers, two lists one after the other, parts of a list, and what two runs have in common.
+use Prim.Native.Nat.{ℕ, zero, suc}
 use mathlib.Core.Path.{_≡_, refl, ap, ap₂}
 use mathlib.Core.List.{List, [], _∷_, _++_, map}
-use lib.ListN.{length}
+use lib.ListN.{length, take, drop}
 use Rattle.basis.specs.Turns.{in-turn, after}
 
 module _ {I S O : Type 0} (f : I → S → O) (next : O → S) where
@@ -22,6 +22,19 @@ module _ {I S O : Type 0} (f : I → S → O) (next : O → S) where
   unfolding after
   after-join [] js s = refl
   after-join (i ∷ is) js s = after-join is js _
+
+  -- The answers to the first n inputs, and to those from place n on.
+  pub turns-take : (n : ℕ) (is : List I) (s : S) → take n (in-turn f next is s) ≡ in-turn f next (take n is) s
+  unfolding in-turn
+  turns-take zero is s = refl
+  turns-take (suc n) [] s = refl
+  turns-take (suc n) (i ∷ is) s = ap (λ (os : List O). f i s ∷ os) (turns-take n is _)
+
+  pub turns-drop : (n : ℕ) (is : List I) (s : S) → drop n (in-turn f next is s) ≡ in-turn f next (drop n is) (after f next (take n is) s)
+  unfolding in-turn after
+  turns-drop zero is s = refl
+  turns-drop (suc n) [] s = refl
+  turns-drop (suc n) (i ∷ is) s = turns-drop n is _
 
   -- What a state has and each turn keeps, the state after all has.
   pub after-keeps : (P : S → Type 0) → ((i : I) (s : S) → P s → P (next (f i s))) → (is : List I) (s : S) → P s → P (after f next is s)

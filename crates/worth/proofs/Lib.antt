@@ -1,0 +1,13 @@
+pub mod BoundedLaws
+pub mod PayerLaws
+pub mod AboveLaws
+pub mod MostLaws
+pub mod SinceLaws
+pub mod BusyLaws
+pub mod PaysLaws
+pub mod CallLaws
+pub mod RunLaws
+pub mod Bought
+pub mod ClockLaws
+pub mod OnExample
+pub mod OnStory
