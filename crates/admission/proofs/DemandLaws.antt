@@ -59,7 +59,7 @@ demand-mono t g i {x} {y} l =
     (λ h k. share-mono (thread t i) (thread t h) (g .threads h k .period-low) l))
 
 -- In 60,000 steps a thread brings at most 119,998: a period of 60,000 begins once, and a shorter one reaches less than itself past the length.
-brings-most : (v d : ℕ) (h : Thread) → Legal-thread v d h → (x : ℕ) → x ≤ 60000 → ceil x (h .period) * h .budget ≤ 119998
+pub brings-most : (v d : ℕ) (h : Thread) → Legal-thread v d h → (x : ℕ) → x ≤ 60000 → ceil x (h .period) * h .budget ≤ 119998
 brings-most v d h g x l = go (decLt (h .period) 60000)
   where
     go : Dec (h .period < 60000) → ceil x (h .period) * h .budget ≤ 119998

@@ -46,9 +46,9 @@ pub demand-reached : demand most-demanded 31 60000 ≡ 3779938
 unfolding demand sum share above opened
 demand-reached = rw begins-twice
 
--- Thread 31 of the lowest priority with a period of 1, in a domain that no other flows to, and 31 threads above it that wait all the time.
+-- Thread 31 of the lowest priority, in a domain that no other flows to, and 31 threads above it that wait all the time, with a period of 59,999.
 abbrev waiting : ℕ → Thread
-waiting i = thread-of (0 ∷ (1 + i) ∷ 60000 ∷ 0 ∷ 60000 ∷ 60000 ∷ 60000 ∷ [])
+waiting i = thread-of (0 ∷ (1 + i) ∷ 59999 ∷ 0 ∷ 59999 ∷ 59999 ∷ 59999 ∷ [])
 
 abbrev pub most-prohibited : Table
 most-prohibited = record {
@@ -56,19 +56,16 @@ most-prohibited = record {
   domains = 2;
   count = 32;
   rows = 1 ∷ 2 ∷ replicate 14 0;
-  threads = listed 31 waiting ++ (thread-of (1 ∷ 0 ∷ 1 ∷ 0 ∷ 1 ∷ 1 ∷ 0 ∷ []) ∷ []);
+  threads = listed 31 waiting ++ (thread-of (1 ∷ 0 ∷ 60000 ∷ 0 ∷ 1 ∷ 1 ∷ 0 ∷ []) ∷ []);
 }
 
 pub most-prohibited-legal : legal most-prohibited ≡ true
 unfolding opened
 most-prohibited-legal = refl
 
-begins-each-step : ceil 60000 1 ≡ 60000
-begins-each-step = omega (arith, ceil-least 60000 1 60000 (omega arith) (omega arith), ceil-covers 60000 1 (omega arith))
-
-pub prohibition-reached : prohibition most-prohibited 31 ≡ 111600000000
+pub prohibition-reached : prohibition most-prohibited 31 ≡ 3719938
 unfolding prohibition sum stretch above opened
-prohibition-reached = rw begins-each-step
+prohibition-reached = rw begins-twice
 
 -- Thread 0 takes every step, so that the demand on thread 1, with W 1 and D 60,000, is always one step more than the length.
 abbrev pub slowest : Table

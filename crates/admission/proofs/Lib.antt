@@ -7,5 +7,6 @@ pub mod UpperLaws
 pub mod AdmitLaws
 pub mod WorstLaws
 pub mod ProhibitionLaws
+pub mod IdleLaws
 pub mod UniqueLaws
 pub mod LargestLaws

@@ -3,7 +3,7 @@ use Prim.Native.Nat.{ℕ, _*_, _≤_, _<_}
 use mathlib.Core.Path.{_≡_, sym, _∙_, subst}
 use mathlib.Core.Bool.{Bool, true, false, true≢false}
 use mathlib.Core.Logic.{_↔_}
-use native.Mathlib.Nat.{le-refl, le-trans, mul-le-mul}
+use native.Mathlib.Nat.{le-refl, le-trans, mul-le-mul-left}
 use native.Mathlib.Omega.{arith}
 use lib.Dec.{ltb}
 use borrow.Author.Tests.{lt-ltb, le-ltb, ltb-true, ltb-false}
@@ -19,12 +19,12 @@ use Rattle.table.specs.declared.Thread.{Thread}
 use Rattle.table.proofs.MarkLaws.{mark-sound, mark-complete}
 use Rattle.admission.specs.Demand.{sum, Sum-of, above}
 use Rattle.admission.specs.Prohibition.{stretch, prohibition, prohibiting, Prohibits, marked-above, otherwise, Prohibition-answer, not-legal, no-thread, prohibited}
-use Rattle.admission.proofs.QuotientLaws.{ceil-le}
 use Rattle.admission.proofs.SumLaws.{sum-longer, sum-but-one, sum-given, sum-only}
+use Rattle.admission.proofs.DemandLaws.{brings-most}
 
 -- What a thread brings, where it is marked and stands above, and where it does not.
 pub stretch-above : (own h : Thread) (m : Bool) → m ≡ true → own .priority < h .priority
-    → stretch own m h ≡ ceil (h .period) (own .period) * h .blocking
+    → stretch own m h ≡ ceil (own .period) (h .period) * h .blocking
 unfolding stretch above pick
 stretch-above own h m e l = rw (e, lt-ltb _ _ l)
 
@@ -91,31 +91,26 @@ module _ (t : Table) (l : ℕ) where
   pub prohibiting-exactly : (w : Told) → (prohibiting t l ≡ w) ↔ Prohibition-answer t l w
   prohibiting-exactly w = (λ e. subst (λ (v : Told). Prohibition-answer t l v) e answer-given, λ r. answer-only r)
 
--- A thread brings at most 60,000 times 60,000: a blocking share of 60,000 for each step of its period.
-brings-most : (v d : ℕ) (own h : Thread) → 1 ≤ own .period → Legal-thread v d h → ceil (h .period) (own .period) * h .blocking ≤ 60000 * 60000
-brings-most v d own h p g =
-    let c : ceil (h .period) (own .period) ≤ 60000 = le-trans (ceil-le (h .period) (own .period) p) (g .period-high) in
-    let b : h .blocking ≤ 60000 = omega (arith, g .blocking-high, g .budget-high, g .period-high) in
-    mul-le-mul {n₂ = 60000} {m₂ = 60000} c b
-
-stretch-most : (v d : ℕ) (own h : Thread) (m : Bool) → 1 ≤ own .period → Legal-thread v d h → stretch own m h ≤ 60000 * 60000
+-- A thread brings at most 119,998: no more than it would demand in that period.
+stretch-most : (v d : ℕ) (own h : Thread) (m : Bool) → own .period ≤ 60000 → Legal-thread v d h → stretch own m h ≤ 119998
 unfolding stretch
 stretch-most v d own h m p g =
-    either (λ (n : ℕ). n ≤ 60000 * 60000) (and m (above own h)) (λ e. brings-most v d own h p g) (λ e. omega arith)
+    either (λ (n : ℕ). n ≤ 119998) (and m (above own h))
+    (λ e. le-trans (mul-le-mul-left (ceil (own .period) (h .period)) (g .blocking-high)) (brings-most v d h g (own .period) p)) (λ e. omega arith)
 
--- The largest prohibition time: 31 threads above with 3,600,000,000 each.
-pub prohibition-most : (t : Table) → Legal t → (l : ℕ) → l < t .count → prohibition t l ≤ 111600000000
+-- The largest prohibition time: 31 threads above with 119,998 each.
+pub prohibition-most : (t : Table) → Legal t → (l : ℕ) → l < t .count → prohibition t l ≤ 3719938
 unfolding prohibition
 prohibition-most t g l k =
     let own = thread t l in
-    let s = sum-but-one (λ h. stretch own (marked t h) (thread t h)) (60000 * 60000) (t .count) l k
+    let s = sum-but-one (λ h. stretch own (marked t h) (thread t h)) 119998 (t .count) l k
     (stretch-other own own (marked t l) (le-refl _))
-    (λ h u. stretch-most (t .version) (t .domains) own (thread t h) (marked t h) (g .threads l k .period-low) (g .threads h u)) in
+    (λ h u. stretch-most (t .version) (t .domains) own (thread t h) (marked t h) (g .threads l k .period-high) (g .threads h u)) in
     omega (arith, s, g .count-high)
 
 -- No sum on the way is larger.
 pub prohibition-partial : (t : Table) → Legal t → (l n : ℕ) → l < t .count → n ≤ t .count
-    → sum n (λ h. stretch (thread t l) (marked t h) (thread t h)) ≤ 111600000000
+    → sum n (λ h. stretch (thread t l) (marked t h) (thread t h)) ≤ 3719938
 unfolding prohibition
 prohibition-partial t g l n k m =
     le-trans (sum-longer (λ h. stretch (thread t l) (marked t h) (thread t h)) n (t .count) m) (prohibition-most t g l k)

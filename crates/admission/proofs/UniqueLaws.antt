@@ -16,11 +16,14 @@ use Rattle.admission.specs.declared.WorstCount.{WorstCount}
 use Rattle.admission.specs.declared.WorstCount.the-variants.{Lengths, NotLegal as NoLegalTable}
 use Rattle.admission.specs.declared.ProhibitionTime.{ProhibitionTime}
 use Rattle.admission.specs.declared.ProhibitionTime.the-variants.{Steps, NotLegal as TableNotLegal, NoThread as NoSuchThread}
+use Rattle.admission.specs.declared.IdleMost.{IdleMost}
+use Rattle.admission.specs.declared.IdleMost.the-variants.{Steps as IdleSteps, NotLegal as IdleNotLegal, NoThread as IdleNoThread}
 use Rattle.admission.specs.Bounded.{told, bounding}
 use Rattle.admission.specs.Tried.{count-given}
 use Rattle.admission.specs.Admit.{told as told-admitting, admitting, bounds-given, counts-given}
 use Rattle.admission.specs.Worst.{told as told-worst, worst-given}
 use Rattle.admission.specs.Prohibition.{told as told-time, prohibiting}
+use Rattle.admission.specs.IdleMost.{told as told-idle, idling}
 
 -- A bound, read back.
 bound-back : ℕ → List ℕ → Bound
@@ -99,3 +102,20 @@ time-injective = undone told-time (λ w. time-back (w .number) (w .values)) time
 
 pub prohibition-unique : (t : Table) (l : ℕ) (r q : ProhibitionTime) → told-time r ≡ prohibiting t l → told-time q ≡ prohibiting t l → r ≡ q
 prohibition-unique t l r q e f = time-injective r q (e ∙ sym f)
+
+-- The most idle steps, read back.
+idle-back : ℕ → List ℕ → IdleMost
+idle-back n [] = pick (eqb n 11) IdleNotLegal IdleNoThread
+idle-back n (x ∷ vs) = IdleSteps x
+
+idle-same : (p : IdleMost) → idle-back (told-idle p .number) (told-idle p .values) ≡ p
+unfolding idle-back pick
+idle-same (IdleSteps n) = refl
+idle-same IdleNotLegal = refl
+idle-same IdleNoThread = refl
+
+pub idle-injective : (a b : IdleMost) → told-idle a ≡ told-idle b → a ≡ b
+idle-injective = undone told-idle (λ w. idle-back (w .number) (w .values)) idle-same
+
+pub idle-most-unique : (t : Table) (h length : ℕ) (r q : IdleMost) → told-idle r ≡ idling t h length → told-idle q ≡ idling t h length → r ≡ q
+idle-most-unique t h length r q e f = idle-injective r q (e ∙ sym f)

@@ -4,4 +4,5 @@ pub mod Tried
 pub mod Admit
 pub mod Worst
 pub mod Prohibition
+pub mod IdleMost
 pub mod Opened

@@ -7,7 +7,8 @@ use Rattle.admission.specs.Tried.{most-tried, lengths-from, lengths, tri
 use Rattle.admission.specs.Admit.{without-bound, first-without, bound-number, bounds-of, searched, counts-of, admitting, bounds-given, counts-given}
 use Rattle.admission.specs.Worst.{worst, worst-given}
 use Rattle.admission.specs.Prohibition.{stretch, prohibition, prohibiting}
+use Rattle.admission.specs.IdleMost.{idle-most, idling}
 
 unfoldable pub opened : {A : Type 0} → A → A
-unfolding table-opened ceil sum above share demand enough length-at bound bounding most-tried lengths-from lengths tried count-given without-bound first-without bound-number bounds-of searched counts-of admitting bounds-given counts-given worst worst-given stretch prohibition prohibiting
+unfolding table-opened ceil sum above share demand enough length-at bound bounding most-tried lengths-from lengths tried count-given without-bound first-without bound-number bounds-of searched counts-of admitting bounds-given counts-given worst worst-given stretch prohibition prohibiting idle-most idling
 opened x = x

@@ -1,4 +1,4 @@
--- The prohibition time of a thread: document 003, equation 1, as printed.
+-- The prohibition time of a thread: document 003, equation 1, with its quotient turned round (Q-4). It is an estimate from B, and no bound.
 use Prim.Native.Nat.{ℕ, _*_, _≤_, _<_}
 use mathlib.Core.Path.{_≡_}
 use mathlib.Core.List.{[], _∷_}
@@ -16,9 +16,10 @@ use Rattle.admission.specs.Demand.{sum, Sum-of, above}
 use Rattle.admission.specs.declared.ProhibitionTime.{ProhibitionTime}
 use Rattle.admission.specs.declared.ProhibitionTime.the-variants.{Steps, NotLegal, NoThread}
 
--- What thread h, with its mark, brings to own's prohibition time: if it is marked and stands above, ceil(P of h / P of own) times B of h.
+-- What thread h, with its mark, brings to own's prohibition time: if it is marked and stands above, B of h as often as h is released in P of
+-- own, ceil(P of own / P of h) times.
 unfoldable pub stretch : Thread → Bool → Thread → ℕ
-stretch own mark h = pick (and mark (above own h)) (ceil (h .period) (own .period) * h .blocking) 0
+stretch own mark h = pick (and mark (above own h)) (ceil (own .period) (h .period) * h .blocking) 0
 
 -- The sum over all threads.
 unfoldable pub prohibition : Table → ℕ → ℕ
@@ -37,7 +38,7 @@ told NoThread = refused 15
 -- What thread h brings to the prohibition time of thread l, in plain words.
 pub data Prohibits (t : Table) (l h : ℕ) : ℕ → Type 0 where
   marked-above : Leaks t h → thread t l .priority < thread t h .priority
-      → Prohibits t l h (ceil (thread t h .period) (thread t l .period) * thread t h .blocking)
+      → Prohibits t l h (ceil (thread t l .period) (thread t h .period) * thread t h .blocking)
   otherwise : (Leaks t h → thread t l .priority < thread t h .priority → ⊥) → Prohibits t l h 0
 
 -- What `prohibition` tells, in plain words: one row for each case, and an answer is given in its row only.

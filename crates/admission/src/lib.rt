@@ -1,20 +1,23 @@
-// Admission: the bound of each thread by time-demand analysis, and the prohibition time beside it.
+// Admission: the bound of each thread by time-demand analysis, and beside it the prohibition time, and the most idle steps on a thread's account.
 ghost use mathlib.Core.Path.{_≡_};
 ghost use Rattle.admission.specs.Bounded.{told, bounding};
 ghost use Rattle.admission.specs.Tried.{count-given};
 ghost use Rattle.admission.specs.Admit.{told as told-admitting, admitting, bounds-given, counts-given};
 ghost use Rattle.admission.specs.Worst.{told as told-worst, worst-given};
 ghost use Rattle.admission.specs.Prohibition.{told as told-time, prohibiting};
+ghost use Rattle.admission.specs.IdleMost.{told as told-idle, idling};
 use table::Table;
 use table::legal;
 
 mod bounds;
 mod demand;
+mod idle;
 mod prohibited;
 mod worst;
 
 use bounds::admit_legal;
 use bounds::find_bound;
+use idle::idle_within;
 use prohibited::prohibition_time;
 use worst::worst_of;
 
@@ -67,6 +70,13 @@ pub enum WorstCount {
 
 // The prohibition time of a thread.
 pub enum ProhibitionTime {
+    Steps(u64),
+    NotLegal,
+    NoThread,
+}
+
+// The most steps that the processor idles on a thread's account.
+pub enum IdleMost {
     Steps(u64),
     NotLegal,
     NoThread,
@@ -138,4 +148,17 @@ pub fn prohibition(t: Table, l: u8) -> ProhibitionTime
         return ProhibitionTime::NoThread;
     }
     ProhibitionTime::Steps(prohibition_time(t, l))
+}
+
+// The most steps, in any `length` steps in a row from a fresh start, that the processor idles on thread h's account; refuses with 11, 15.
+pub fn idle_most(t: Table, h: u8, length: u32) -> IdleMost
+    ensures { λ r. ⌜ told-idle r ≡ idling t h length ⌝ }
+{
+    if !legal(t) {
+        return IdleMost::NotLegal;
+    }
+    if t.count <= h {
+        return IdleMost::NoThread;
+    }
+    IdleMost::Steps(idle_within(t, h, length))
 }

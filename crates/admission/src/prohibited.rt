@@ -8,7 +8,7 @@ use table::Table;
 use table::Thread;
 use table::mark_all;
 
-// What thread h, marked or not, brings to own's prohibition time.
+// What thread h, marked or not, brings to own's prohibition time: B for each of its releases in own's period.
 fn stretch(own: Thread, marked: bool, h: Thread) -> u64
     requires { ⌜ (1 ≤ own .period) × (1 ≤ h .period) ⌝ }
     ensures { λ r. ⌜ r ≡ the-stretch own marked h ⌝ }
@@ -19,7 +19,7 @@ fn stretch(own: Thread, marked: bool, h: Thread) -> u64
     if h.priority <= own.priority {
         return 0;
     }
-    rounded_up(h.period as u32, own.period as u32) * h.blocking as u64
+    rounded_up(own.period as u32, h.period as u32) * h.blocking as u64
 }
 
 // The sum over the marked threads above thread l.

@@ -50,6 +50,7 @@ use Rattle.admission.proofs.BoundLaws.{bound-exactly, none-exactly, search-find
 use Rattle.admission.proofs.AdmitLaws.{admitting-exactly}
 use Rattle.admission.proofs.WorstLaws.{worst-refused, worst-answered, worst-exactly, counts-within}
 use Rattle.admission.proofs.ProhibitionLaws.{prohibition-exactly, prohibiting-exactly}
+use Rattle.admission.proofs.IdleLaws.{idling-exactly}
 use Rattle.demands.specs.Demand1.{Demand-1}
 use Rattle.demands.specs.Demand2.{Demand-2}
 use Rattle.demands.specs.Demand3.{Demand-3}
@@ -94,6 +95,7 @@ demand-1-holds = record {
   worst-refused = worst-refused;
   worst-answered = worst-answered;
   prohibition-answered = prohibiting-exactly;
+  idle-answered = idling-exactly;
   host-mark-refused = mark-refused-exactly;
   host-bound-refused = bound-refused-exactly;
   state-back = refused-keeps;

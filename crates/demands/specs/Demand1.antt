@@ -36,6 +36,7 @@ use Rattle.admission.specs.Tried.{count-given}
 use Rattle.admission.specs.Admit.{admitting, bounds-given, counts-given, Admit-answer}
 use Rattle.admission.specs.Worst.{worst, worst-given}
 use Rattle.admission.specs.Prohibition.{prohibiting, Prohibition-answer}
+use Rattle.admission.specs.IdleMost.{idling, Idle-answer}
 
 pub record Demand-1 : Type 0 where
   -- Damaged tables: whatever the bytes, the reader tells the one judgment that the rules give, with its place; refused, its table is zero.
@@ -67,6 +68,7 @@ pub record Demand-1 : Type 0 where
   pub worst-refused : (t : Table) → (worst-given t ≡ refused 11) ↔ (legal t ≡ false)
   pub worst-answered : (t : Table) → legal t ≡ true → worst-given t ≡ answered (worst t ∷ [])
   pub prohibition-answered : (t : Table) (l : ℕ) (w : Told) → (prohibiting t l ≡ w) ↔ Prohibition-answer t l w
+  pub idle-answered : (t : Table) (h length : ℕ) (w : Told) → (idling t h length ≡ w) ↔ Idle-answer t h length w
   pub host-mark-refused : (s : List ℕ) (i n : ℕ) → (thread-mark s i ≡ refusal n) ↔ Refuses s i n
   pub host-bound-refused : (s : List ℕ) → Bytes s → (i n : ℕ) → (thread-bound s i ≡ refusal n) ↔ Refuses s i n
   -- A refused step hands the state back as it came.

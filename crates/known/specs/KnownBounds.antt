@@ -1,16 +1,18 @@
--- More of document 01 by hand: admission and the prohibition time; and of Q-14: the counts.
+-- More of document 01 by hand: admission; of Q-4: the prohibition time and the most idle steps; and of Q-14: the counts.
 use Prim.Native.Nat.{ℕ, _+_}
 use mathlib.Core.Path.{refl}
 use mathlib.Core.List.{List, [], _∷_}
 use lib.ListN.{replicate}
 use Rattle.basis.specs.Search.{listed}
 use Rattle.table.specs.declared.Table.{Table}
+use Rattle.table.specs.declared.Thread.{Thread}
 use Rattle.example.specs.Example.{task, event, in-version, example, upper, lower}
 use Rattle.admission.specs.Bounded.{bounding}
 use Rattle.admission.specs.Tried.{lengths, count-given}
 use Rattle.admission.specs.Admit.{counts-given}
 use Rattle.admission.specs.Worst.{worst-given}
 use Rattle.admission.specs.Prohibition.{prohibiting}
+use Rattle.admission.specs.IdleMost.{idling}
 use Rattle.admission.specs.Opened.{opened as admission-opened}
 use Rattle.known.specs.Entry.{Entry, Holds, same, all-same, by-numbers, flat, admit-told}
 use Rattle.known.specs.Example.{later, lower-with, top, two, with-threads, exchanged, both-ways, short-deadlines, eventful, row-too-many}
@@ -20,12 +22,22 @@ use Rattle.known.specs.Runs.{joined}
 abbrev event-above : Table
 event-above = in-version 2 (two 3 2 (event 1 30 5 2 5 1) (task 0 20 10 0 4 10 0))
 
--- What `bound_of` and `prohibition` tell.
+-- What `bound_of`, `prohibition` and `idle_most` tell.
 abbrev bound-told : Table → ℕ → List ℕ
 bound-told t i = flat (bounding t i)
 
 abbrev prohibition-told : Table → ℕ → List ℕ
 prohibition-told t l = flat (prohibiting t l)
+
+abbrev idle-told : Table → ℕ → ℕ → List ℕ
+idle-told t h length = flat (idling t h length)
+
+-- E with a period of 25 for thread 1: the planner's case.
+abbrev slow : Thread
+slow = task 0 20 25 0 3 25 0
+
+abbrev planned : Table
+planned = two 3 2 upper slow
 
 -- E with a second thread of domain 1 in between: priority 25, P 20, B 1.
 abbrev two-marked : Table
@@ -63,21 +75,31 @@ known =
     ∷ record { computed = prohibition-told (with-threads (task 0 40 10 0 2 10 2 ∷ upper ∷ lower ∷ [])) 2; by-hand = 0 ∷ 2 ∷ [] }
     -- threads above only, wherever they stand
     ∷ record { computed = joined (prohibition-told exchanged 0 ∷ prohibition-told exchanged 1 ∷ []); by-hand = joined ((0 ∷ 2 ∷ []) ∷ (0 ∷ 0 ∷ []) ∷ []) }
-    -- ceil(P of h / P of l) times B of h: P of h is 10, B 2; P of l is 4, then 5, then 20
-    ∷ record { computed = prohibition-told (two 3 2 upper (task 0 20 4 0 3 4 0)) 1; by-hand = 0 ∷ 6 ∷ [] }
-    ∷ record { computed = prohibition-told (two 3 2 upper (task 0 20 5 0 3 5 0)) 1; by-hand = 0 ∷ 4 ∷ [] }
-    ∷ record { computed = prohibition-told (two 3 2 upper (task 0 20 20 0 3 20 0)) 1; by-hand = 0 ∷ 2 ∷ [] }
-    -- the sum: 1 * 2 + 2 * 1
-    ∷ record { computed = prohibition-told two-marked 2; by-hand = 0 ∷ 4 ∷ [] }
-    -- the mark counts, also above a thread that the marked one's domain may flow to
-    ∷ record { computed = prohibition-told two-marked 1; by-hand = 0 ∷ 2 ∷ [] }
+    -- ceil(P of l / P of h) times B of h: P of h is 10, B 2; P of l is 25, the planner's case, then 20, then 4
+    ∷ record { computed = prohibition-told planned 1; by-hand = 0 ∷ 6 ∷ [] }
+    ∷ record { computed = prohibition-told (two 3 2 upper (task 0 20 20 0 3 20 0)) 1; by-hand = 0 ∷ 4 ∷ [] }
+    ∷ record { computed = prohibition-told (two 3 2 upper (task 0 20 4 0 3 4 0)) 1; by-hand = 0 ∷ 2 ∷ [] }
+    -- the sum: 1 * 2 + 1 * 1, and for a P of 25 below both 3 * 2 + 2 * 1
+    ∷ record { computed = prohibition-told two-marked 2; by-hand = 0 ∷ 3 ∷ [] }
+    ∷ record { computed = prohibition-told (with-threads (upper ∷ task 1 25 20 0 2 20 1 ∷ slow ∷ [])) 2; by-hand = 0 ∷ 8 ∷ [] }
+    -- the mark counts, also above a thread that the marked one's domain may flow to: 2 * 2 for its P of 20
+    ∷ record { computed = prohibition-told two-marked 1; by-hand = 0 ∷ 4 ∷ [] }
+    -- the most idle steps on thread 0's account, P 10 and W 4, in 0, 1, 10, 11, 20 and 25 steps: once, twice, twice, three times, three times, four times W
+    ∷ record { computed = joined (idle-told example 0 0 ∷ idle-told example 0 1 ∷ idle-told example 0 10 ∷ idle-told example 0 11 ∷ []); by-hand = joined ((0 ∷ 4 ∷ []) ∷ (0 ∷ 8 ∷ []) ∷ (0 ∷ 8 ∷ []) ∷ (0 ∷ 12 ∷ []) ∷ []) }
+    ∷ record { computed = joined (idle-told example 0 20 ∷ idle-told planned 0 25 ∷ []); by-hand = joined ((0 ∷ 12 ∷ []) ∷ (0 ∷ 16 ∷ []) ∷ []) }
+    -- an unmarked thread has the figure too, W 3; and so has one that is released by events
+    ∷ record { computed = joined (idle-told example 1 10 ∷ idle-told eventful 1 10 ∷ []); by-hand = joined ((0 ∷ 6 ∷ []) ∷ (0 ∷ 6 ∷ []) ∷ []) }
+    -- the longest length, of 32 bits: 429,496,730 periods of 10 begin in it
+    ∷ record { computed = idle-told example 0 4294967295; by-hand = 0 ∷ 1717986924 ∷ [] }
     -- 15: no such thread
     ∷ record { computed = joined (bound-told example 2 ∷ bound-told example 32 ∷ []); by-hand = 15 ∷ 15 ∷ [] }
     ∷ record { computed = joined (prohibition-told example 2 ∷ prohibition-told example 32 ∷ []); by-hand = 15 ∷ 15 ∷ [] }
+    ∷ record { computed = joined (idle-told example 2 10 ∷ idle-told example 32 10 ∷ []); by-hand = 15 ∷ 15 ∷ [] }
     -- 11, and before 15
     ∷ record { computed = admit-told row-too-many; by-hand = 11 ∷ replicate 32 0 }
     ∷ record { computed = joined (bound-told row-too-many 1 ∷ bound-told row-too-many 2 ∷ []); by-hand = 11 ∷ 11 ∷ [] }
     ∷ record { computed = joined (prohibition-told row-too-many 1 ∷ prohibition-told row-too-many 2 ∷ []); by-hand = 11 ∷ 11 ∷ [] }
+    ∷ record { computed = joined (idle-told row-too-many 1 10 ∷ idle-told row-too-many 2 10 ∷ []); by-hand = 11 ∷ 11 ∷ [] }
     -- the lengths whose demand is worked out: thread 0's budget 4 holds its demand, thread 1 goes from 3 to 3 + 4
     ∷ record { computed = joined (lengths example 0 ∷ lengths example 1 ∷ []); by-hand = joined ((4 ∷ []) ∷ (3 ∷ 7 ∷ []) ∷ []) }
     -- E's counts, of its admission and one by one

@@ -6,6 +6,10 @@ fn product(a: u16, b: u16) -> u64 {
     a as u64 * b as u64
 }
 
+fn long_product(a: u32, b: u16) -> u64 {
+    a as u64 * b as u64
+}
+
 // A share for each of the periods p that it takes to fill a length: the whole ones, and one more where they fall short.
 fn shares(length: u16, p: u16, share: u16) -> u64 {
     if p == 0 {
@@ -154,13 +158,13 @@ pub fn worst(t: Table) -> u32 {
     sum
 }
 
-// What thread h adds to the prohibition time of a thread below it, if it is marked: B of h for each P of the lower one that it
-// takes to fill P of h.
+// What thread h adds to the prohibition time of a thread below it, if it is marked: B of h for each P of h that it takes to fill P of
+// the lower one.
 fn prohibited_by(h: Thread, own: Thread, marked: bool) -> u64 {
     if !marked | (h.priority <= own.priority) {
         return 0;
     }
-    shares(h.period, own.period, h.blocking)
+    shares(own.period, h.period, h.blocking)
 }
 
 // The prohibition time of thread l, or 1,000,000,000,000 and the number of the refusal.
@@ -178,6 +182,26 @@ pub fn prohibition(t: Table, l: u8) -> u64 {
         sum = std::num::wrapping_add_u64(sum, prohibited_by(f, own, m.set));
     }
     sum
+}
+
+// The most idle steps on thread h's account in so many steps, or 1,000,000,000,000 and the number of the refusal: W of h for each P of h
+// that fits into them, once more for a part of a period, and once more again.
+pub fn idle(t: Table, h: u8, length: u32) -> u64 {
+    let why = refusal(t, h);
+    if why != 0 {
+        return std::num::wrapping_add_u64(1000000000000, why as u64);
+    }
+    let f = t.threads[h as usize % 32];
+    let p = f.period as u32;
+    if p == 0 {
+        return 0;
+    }
+    let whole = long_product(length / p, f.budget);
+    let again = std::num::wrapping_add_u64(whole, f.budget as u64);
+    if length % p == 0 {
+        return again;
+    }
+    std::num::wrapping_add_u64(again, f.budget as u64)
 }
 
 // Whether a table has a long period, so that the plain search takes long.

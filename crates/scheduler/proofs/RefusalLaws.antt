@@ -22,7 +22,7 @@ use Rattle.state.specs.State.{last-clock, fits}
 use Rattle.state.specs.Release.{has-event}
 use Rattle.frame.specs.Mode.{Mode, unframed, mode-ok}
 use Rattle.walk.specs.Step.{Input, step}
-use Rattle.scheduler.specs.Taken.{Taken, took, mask-ok, taken-then, taken}
+use Rattle.scheduler.specs.Taken.{Taken, took, refused-step, mask-ok, taken-then, taken}
 use Rattle.scheduler.specs.Numbered.{Only-events, Numbered, not-legal, bad-frame, not-fitting, not-one-each, no-event, at-last, steps}
 
 -- A mask of 32 bits has no event behind bit 31.
@@ -47,11 +47,12 @@ mask-exactly t mask m = (
       (λ h. rw h)),
 )
 
--- A refused step hands back the state it was given.
-pub refused-keeps : (t : Table) (mode : Mode) (x : Input) (s : State) → 0 < taken t mode x s .told .number → taken t mode x s .state ≡ s
+-- A refused step is its number, with no values, and the state it was given.
+pub refused-whole : (t : Table) (mode : Mode) (x : Input) (s : State) → 0 < taken t mode x s .told .number
+    → taken t mode x s ≡ refused-step (taken t mode x s .told .number) s
 unfolding taken taken-then
-refused-keeps t mode x s =
-    let P : Taken → Type 0 = λ r. 0 < r .told .number → r .state ≡ s in
+refused-whole t mode x s =
+    let P : Taken → Type 0 = λ r. 0 < r .told .number → r ≡ refused-step (r .told .number) s in
     both-ways P _ _ _
     (both-ways P _ _ _
     (both-ways P _ _ _
@@ -59,6 +60,9 @@ refused-keeps t mode x s =
     (λ h. refl))
     (λ h. refl))
     (λ h. refl)
+
+pub refused-keeps : (t : Table) (mode : Mode) (x : Input) (s : State) → 0 < taken t mode x s .told .number → taken t mode x s .state ≡ s
+refused-keeps t mode x s h = ap (λ (r : Taken). r .state) (refused-whole t mode x s h)
 
 module _ (t : Table) (mode : Mode) (x : Input) (s : State) where
   -- where every test passes, a call is the step

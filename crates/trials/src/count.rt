@@ -1,6 +1,7 @@
 // What admission answers, held against the plain search and counted.
 use admission::Admitting;
 use admission::Bound;
+use admission::IdleMost;
 use admission::ProhibitionTime;
 use admission::WorstCount;
 use table::Table;
@@ -68,6 +69,32 @@ fn time_number(t: Table, l: u8) -> u64 {
     }
 }
 
+// The most idle steps, or 1,000,000,000,000 and the refusal.
+fn idle_number(t: Table, h: u8, length: u32) -> u64 {
+    let p = admission::idle_most(t, h, length);
+    match p {
+        IdleMost::Steps(n) => n,
+        IdleMost::NotLegal => 1000000000011,
+        IdleMost::NoThread => 1000000000015,
+    }
+}
+
+fn is_figure(t: Table, h: u8, length: u32) -> bool {
+    idle_number(t, h, length) == rival_bounds::idle(t, h, length)
+}
+
+// The most idle steps on a thread's account: in no step, one period, a step more and a step less, some other length, and the longest.
+fn is_idle(t: Table, h: u8, some: u32) -> bool {
+    let f = t.threads[h as usize % 32];
+    let period = f.period as u32;
+    is_figure(t, h, 0)
+        & is_figure(t, h, period)
+        & is_figure(t, h, std::num::wrapping_add_u32(period, 1))
+        & is_figure(t, h, std::num::wrapping_sub_u32(period, 1))
+        & is_figure(t, h, some)
+        & is_figure(t, h, 4294967295)
+}
+
 // The worst count, or 100,000,000 and the refusal.
 fn worst_number(t: Table) -> u32 {
     let w = admission::worst_count(t);
@@ -108,7 +135,7 @@ fn lengths_tried(t: Table, i: u8, bound: u32) -> u32 {
     rival_bounds::lengths_tried(t, i) as u32
 }
 
-// Both calls that name a thread.
+// The calls that name a thread.
 fn thread(y: Tally, t: Table, i: u8) -> Tally {
     let ours = admission::bound_of(t, i);
     let b = ours.bound;
@@ -117,7 +144,8 @@ fn thread(y: Tally, t: Table, i: u8) -> Tally {
     let tried = lengths_tried(t, i, bound);
     let good = (bound_number(b) == bound)
         & (ours.tried as u32 == tried)
-        & (time_number(t, i) == time);
+        & (time_number(t, i) == time)
+        & is_idle(t, i, std::num::wrapping_add_u32(bound, tried));
     let short = (bound >= 100000) | is_short(t, i, tried);
     let mut z = y;
     z.found = more_if(z.found, (bound != 0) & (bound < 100000));

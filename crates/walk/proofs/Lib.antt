@@ -10,3 +10,4 @@ pub mod SameLaws
 pub mod RunLaws
 pub mod ReleasedLaws
 pub mod OutsideLaws
+pub mod MostLaws

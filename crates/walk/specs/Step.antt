@@ -71,3 +71,9 @@ unfoldable pub ran-by : ℕ → Answer → ℕ
 ran-by i (Ran j) = pick (eqb i j) 1 0
 ran-by i (IdleFor j) = 0
 ran-by i Idle = 0
+
+-- How often the processor idles on thread i's account by an answer: once, or not.
+unfoldable pub idled-by : ℕ → Answer → ℕ
+idled-by i (Ran j) = 0
+idled-by i (IdleFor j) = pick (eqb i j) 1 0
+idled-by i Idle = 0

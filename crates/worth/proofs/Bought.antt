@@ -19,13 +19,14 @@ use Rattle.state.proofs.FitLaws.{fresh-fits}
 use Rattle.frame.specs.Mode.{unframed}
 use Rattle.walk.specs.Step.{Input, quiet}
 use Rattle.walk.specs.Paid.{payments, runs-of}
+use Rattle.walk.proofs.MostLaws.{Room}
 use Rattle.scheduler.specs.Taken.{Taken, taken}
 use Rattle.scheduler.specs.Calls.{calls}
 use Rattle.admission.specs.Admit.{admitting, bounds-given}
 use Rattle.worth.specs.Worth.{from, after-calls, calls-of, state-at, Released-at, numbers, bytes-of, runs-told, Bounded-release, Bought, Pays-budget, Worth}
 use Rattle.worth.specs.Premises.{seen}
 use Rattle.worth.proofs.BoundedLaws.{Bounded, bounded-by, admitted-bound}
-use Rattle.worth.proofs.MostLaws.{onward, Room}
+use Rattle.worth.proofs.MostLaws.{onward}
 use Rattle.worth.proofs.BusyLaws.{Busy, busy-next, busy-fresh}
 use Rattle.worth.proofs.PaysLaws.{Starts, pays-from}
 use Rattle.worth.proofs.RunLaws.{runs-from, counts-on}

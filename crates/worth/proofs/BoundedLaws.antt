@@ -20,7 +20,7 @@ use Rattle.admission.specs.Admit.{lacking, without-bound, first-without, or-zer
 use Rattle.admission.proofs.BoundLaws.{is-of-bound}
 
 -- No refusal is an answer with 0.
-not-answered : {A : Type 0} (n : ℕ) (w : Told) → refused n ≡ w → 0 < n → w .number ≡ 0 → A
+pub not-answered : {A : Type 0} (n : ℕ) (w : Told) → refused n ≡ w → 0 < n → w .number ≡ 0 → A
 not-answered n w e l z = let q : n ≡ w .number = ap (λ (v : Told). v .number) e in absurd (omega arith)
 
 found-told : (x : ℕ) (s : Sought ℕ) → sought-told s ≡ answered (x ∷ []) → s ≡ found x

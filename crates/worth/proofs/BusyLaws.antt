@@ -27,10 +27,11 @@ use Rattle.walk.specs.Paid.{pays, payments}
 use Rattle.walk.specs.declared.Walked.{Walked}
 use Rattle.walk.proofs.StepLaws.{step-fits}
 use Rattle.walk.proofs.PaidLaws.{step-spends}
+use Rattle.walk.proofs.MostLaws.{Room, paid-within}
 use Rattle.admission.specs.Demand.{above, demand}
 use Rattle.worth.proofs.PayerLaws.{Payer, step-payer}
 use Rattle.worth.proofs.AboveLaws.{upper, Above, upper-add, upper-one, upper-most}
-use Rattle.worth.proofs.MostLaws.{onward, Room, onward-clock, payments-join, paid-within}
+use Rattle.worth.proofs.MostLaws.{onward, onward-clock, payments-join}
 
 -- What the threads above thread i pay over these steps.
 abbrev pub upper-paid : Table → ℕ → List Input → State → ℕ
@@ -79,7 +80,7 @@ module _ (t : Table) (i : ℕ) (g : Legal t) where
     pub upper-within : (a : List Input) (s : State) → Fits t s → Room a s → Resting t i s → length a ≤ x
         → thread t i .budget + upper-paid t i a s ≤ x
     upper-within a s f r z l =
-        let m = upper-most t i x (λ h. payments t unframed h a s) (λ h k u. omega (arith, paid-within t g h k a s f r x l, z h k u)) in
+        let m = upper-most t i x (λ h. payments t unframed h a s) (λ h k u. omega (arith, paid-within t unframed g h k a s f r x l, z h k u)) in
         omega arith
 
     module _ (some-budget : 1 ≤ thread t i .budget) where

@@ -14,17 +14,18 @@ use Rattle.basis.proofs.ListLaws.{Each}
 use Rattle.table.specs.declared.Table.{Table}
 use Rattle.state.specs.State.{last-clock, Fits}
 use Rattle.state.specs.declared.State.{State}
-use Rattle.frame.specs.Mode.{unframed}
+use Rattle.frame.specs.Mode.{Mode, unframed}
 use Rattle.walk.specs.Step.{Input, step}
 use Rattle.walk.specs.Paid.{runs-of}
 use Rattle.walk.proofs.StepLaws.{step-clock, step-fits}
+use Rattle.walk.proofs.MostLaws.{Room}
 use Rattle.scheduler.specs.Taken.{Taken, took, taken}
 use Rattle.scheduler.specs.Numbered.{Numbered, steps}
 use Rattle.scheduler.specs.Calls.{calls}
 use Rattle.scheduler.proofs.RefusalLaws.{taken-steps, number-exactly, refused-keeps}
 use Rattle.scheduler.proofs.UniqueLaws.{answer-back}
 use Rattle.worth.specs.Worth.{after-calls, numbers, bytes-of, runs-told}
-use Rattle.worth.proofs.MostLaws.{onward, Room}
+use Rattle.worth.proofs.MostLaws.{onward}
 
 -- Thread i's byte is 1 at each of these steps.
 abbrev pub Ones : ℕ → List Input → Type 0
@@ -36,15 +37,15 @@ ones-of i zero (y ∷ a) e = let z : _≡_ {A = ℕ} 0 1 = cc in absurd (omega a
 ones-of i (suc n) (y ∷ a) e = let rest : bytes-of i a ≡ replicate n 1 = cc in (cc, ones-of i n a rest)
 
 -- What a call that is given 0 had.
-record Steps (t : Table) (y : Input) (s : State) : Type 0 where
-  step-taken : taken t unframed y s ≡ took (step t unframed y s)
-  early : s .clock < last-clock
+pub record Steps (t : Table) (mode : Mode) (y : Input) (s : State) : Type 0 where
+  pub step-taken : taken t mode y s ≡ took (step t mode y s)
+  pub early : s .clock < last-clock
 
-stepped : (t : Table) (y : Input) (s : State) → taken t unframed y s .told .number ≡ 0 → Steps t y s
-stepped t y s e = go (number-exactly t unframed y s 0 .0 e)
+pub stepped : (t : Table) (mode : Mode) (y : Input) (s : State) → taken t mode y s .told .number ≡ 0 → Steps t mode y s
+stepped t mode y s e = go (number-exactly t mode y s 0 .0 e)
   where
-    go : Numbered t unframed y s 0 → Steps t y s
-    go (steps a o b c m d) = record { step-taken = taken-steps t unframed y s a o b c m d; early = d }
+    go : Numbered t mode y s 0 → Steps t mode y s
+    go (steps a o b c m d) = record { step-taken = taken-steps t mode y s a o b c m d; early = d }
 
 module _ (t : Table) where
   -- what each step from a fitting state keeps, a run of calls keeps
@@ -58,7 +59,7 @@ module _ (t : Table) where
       one : (y : Input) (s : State) → Q s → Q (taken t unframed y s .state)
       one y s h =
           by-test (eqb (taken t unframed y s .told .number) 0)
-          (λ e. let d = stepped t y s (eqb-true _ _ e) in
+          (λ e. let d = stepped t unframed y s (eqb-true _ _ e) in
           subst (λ (c : Taken). Q (c .state)) (sym (d .step-taken)) (step-fits t unframed y s (h .0) (d .early), keep y s (h .0) (d .early) (h .1)))
           (λ e. let d = eqb-false (taken t unframed y s .told .number) 0 e in
           subst Q (sym (refused-keeps t unframed y s (omega (arith, d)))) h)
@@ -78,7 +79,7 @@ module _ (t : Table) where
   made (suc n) (y ∷ a) s f e =
       let first : taken t unframed y s .told .number ≡ 0 = cc in
       let rest : numbers (calls t unframed a (taken t unframed y s .state)) ≡ replicate n 0 = cc in
-      let d = stepped t y s first in
+      let d = stepped t unframed y s first in
       let z : State = step t unframed y s .state in
       let m : Made n a z = made n a z (step-fits t unframed y s f (d .early)) (rw (d .step-taken) at rest) in
       record {

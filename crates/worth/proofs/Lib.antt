@@ -8,6 +8,7 @@ pub mod PaysLaws
 pub mod CallLaws
 pub mod RunLaws
 pub mod Bought
+pub mod Account
 pub mod ClockLaws
 pub mod OnExample
 pub mod OnStory

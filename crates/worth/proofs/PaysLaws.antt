@@ -21,10 +21,11 @@ use Rattle.state.specs.declared.State.{State}
 use Rattle.frame.specs.Mode.{unframed}
 use Rattle.walk.specs.Step.{Input, step}
 use Rattle.walk.specs.Paid.{pays, payments}
+use Rattle.walk.proofs.MostLaws.{Room, room-later, fits-later, pays-from-rest}
 use Rattle.admission.specs.Demand.{demand}
 use Rattle.worth.proofs.PayerLaws.{Payer, step-payer}
 use Rattle.worth.proofs.AboveLaws.{upper, upper-add, upper-one}
-use Rattle.worth.proofs.MostLaws.{onward, Room, room-later, fits-later, payments-join, pays-from-rest}
+use Rattle.worth.proofs.MostLaws.{onward, payments-join}
 use Rattle.worth.proofs.SinceLaws.{Since, calm, since-next, since-release, fills}
 use Rattle.worth.proofs.BusyLaws.{upper-paid, Busy, upper-join, busy-clock, upper-within}
 
@@ -66,7 +67,7 @@ module _ (t : Table) (g : Legal t) (i : ℕ) (l : i < t .count) where
       → Unlost (y ∷ a) s
   unfolding payments
   unlost-on y a s f p h =
-      omega (arith, pays-from-rest t y s i, own-or-upper y s f (omega arith), upper-cons y a s, h (omega (arith, pays-from-rest t y s i)))
+      omega (arith, pays-from-rest t unframed y s i, own-or-upper y s f (omega arith), upper-cons y a s, h (omega (arith, pays-from-rest t unframed y s i)))
 
   -- its rest after a release that leaves it alone
   calm-rest : (y : Input) (s : State) → Fits t s → (n : ℕ) → 1 ≤ n → n < thread t i .deadline → Since t i n s
@@ -78,7 +79,7 @@ module _ (t : Table) (g : Legal t) (i : ℕ) (l : i < t .count) where
   unlost-calm [] s f r n low high c p = zero-le
   unlost-calm (y ∷ a) s f r n low high c p =
       unlost-on y a s f (rw (calm-rest y s f n low (omega arith) c) p)
-      (unlost-calm a (step t unframed y s .state) (fits-later t y a s f r) (room-later t y a s r) (n + 1) (omega arith) (omega arith)
+      (unlost-calm a (step t unframed y s .state) (fits-later t unframed y a s f r) (room-later t unframed y a s r) (n + 1) (omega arith) (omega arith)
       (since-next t g i l y s f n low (omega arith) c))
 
   -- what it pays is gone from its rest
@@ -88,9 +89,9 @@ module _ (t : Table) (g : Legal t) (i : ℕ) (l : i < t .count) where
   left-calm [] s f r n low high c = omega arith
   left-calm (y ∷ a) s f r n low high c = omega (
     arith,
-    pays-from-rest t y s i,
+    pays-from-rest t unframed y s i,
     calm-rest y s f n low (omega arith) c,
-    left-calm a (step t unframed y s .state) (fits-later t y a s f r) (room-later t y a s r) (n + 1) (omega arith) (omega arith)
+    left-calm a (step t unframed y s .state) (fits-later t unframed y a s f r) (room-later t unframed y a s r) (n + 1) (omega arith) (omega arith)
         (since-next t g i l y s f n low (omega arith) c),
   )
 
@@ -103,7 +104,7 @@ module _ (t : Table) (g : Legal t) (i : ℕ) (l : i < t .count) where
     unlost [] r rel d p = zero-le
     unlost (y ∷ a) r rel d p =
         unlost-on y a s f (rw (full y rel) p)
-        (unlost-calm a (step t unframed y s .state) (fits-later t y a s f r) (room-later t y a s r) 1 (omega arith) (omega arith)
+        (unlost-calm a (step t unframed y s .state) (fits-later t unframed y a s f r) (room-later t unframed y a s r) 1 (omega arith) (omega arith)
         (since-release t g i l y s f rel))
 
     pub left-from : (y : Input) (a : List Input) → Room (y ∷ a) s → releases t i (y .mask) s ≡ true → length (y ∷ a) ≤ thread t i .deadline
@@ -112,8 +113,8 @@ module _ (t : Table) (g : Legal t) (i : ℕ) (l : i < t .count) where
     left-from y a r rel d = omega (
       arith,
       full y rel,
-      pays-from-rest t y s i,
-      left-calm a (step t unframed y s .state) (fits-later t y a s f r) (room-later t y a s r) 1 (omega arith) (omega arith)
+      pays-from-rest t unframed y s i,
+      left-calm a (step t unframed y s .state) (fits-later t unframed y a s f r) (room-later t unframed y a s r) 1 (omega arith) (omega arith)
           (since-release t g i l y s f rel),
     )
 

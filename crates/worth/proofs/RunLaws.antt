@@ -22,8 +22,9 @@ use Rattle.frame.specs.Mode.{unframed}
 use Rattle.walk.specs.Step.{Input, step}
 use Rattle.walk.specs.Paid.{payments, runs-of}
 use Rattle.walk.proofs.CountLaws.{step-runs, step-counts}
+use Rattle.walk.proofs.MostLaws.{Room, room-later, fits-later, pays-from-rest}
 use Rattle.worth.proofs.PayerLaws.{stays-unmarked, pays-by-running}
-use Rattle.worth.proofs.MostLaws.{onward, Room, room-later, fits-later, pays-from-rest}
+use Rattle.worth.proofs.MostLaws.{onward}
 use Rattle.worth.proofs.SinceLaws.{Since, calm, since-next, since-release, fills}
 use Rattle.worth.proofs.PaysLaws.{left-from}
 use Rattle.worth.proofs.CallLaws.{Ones}
@@ -44,7 +45,7 @@ module _ (t : Table) (g : Legal t) (i : ℕ) (l : i < t .count) where
       → Going share (progress (step t unframed y s .state) i)
   step-going y s f one h =
       let ended = step-runs t unframed y s i (in-place s f) in
-      let paid = pays-from-rest t y s i in
+      let paid = pays-from-rest t unframed y s i in
       record {
         unmarked = stays-unmarked t g y s f i l one (h .unmarked);
         within = by-test (eqb (progress (release t (y .mask) s) i .execution) 0)
@@ -75,7 +76,7 @@ module _ (t : Table) (g : Legal t) (i : ℕ) (l : i < t .count) where
       let e : progress (release t (y .mask) s) i ≡ progress s i = calm t g i l y s f n low (omega arith) c in
       subst (λ (p : Progress). Through (y ∷ a) s p) e
       (through-on y a s f
-      (through-calm a (step t unframed y s .state) (fits-later t y a s f r) (room-later t y a s r) (n + 1) (omega arith) (omega arith)
+      (through-calm a (step t unframed y s .state) (fits-later t unframed y a s f r) (room-later t unframed y a s r) (n + 1) (omega arith) (omega arith)
       (since-next t g i l y s f n low (omega arith) c) (o .1)
       (step-going y s f (o .0) (subst (λ (p : Progress). Going share p) (sym e) h))))
 
@@ -87,7 +88,7 @@ module _ (t : Table) (g : Legal t) (i : ℕ) (l : i < t .count) where
       let full = fills t g i l y s f rel in
       let w : Through (y ∷ a) s (progress (release t (y .mask) s) i)
       = through-on y a s f
-      (through-calm a (step t unframed y s .state) (fits-later t y a s f r) (room-later t y a s r) 1 (omega arith) (omega arith)
+      (through-calm a (step t unframed y s .state) (fits-later t unframed y a s f r) (room-later t unframed y a s r) 1 (omega arith) (omega arith)
       (since-release t g i l y s f rel) (o .1)
       (step-going y s f (o .0) (record { unmarked = full .unmarked; within = omega (arith, full .rest, full .execution) }))) in
       omega (arith, w .spent, w .going .within, full .execution, left-from t g i l s f y a r rel d)
@@ -101,4 +102,4 @@ module _ (t : Table) (g : Legal t) (i : ℕ) (l : i < t .count) where
       let z : State = step t unframed y s .state in
       let same : progress (release t (y .mask) s) i .ran ≡ progress s i .ran
       = ap (λ (p : Progress). p .ran) (release-at t (y .mask) s i l (in-place s f)) ∙ released-ran (thread t i) (s .clock) (has-event (y .mask) i) (progress s i) in
-      omega (arith, same, step-counts t unframed y s (g .count-high) f i l, counts-on a z (fits-later t y a s f r) (room-later t y a s r))
+      omega (arith, same, step-counts t unframed y s (g .count-high) f i l, counts-on a z (fits-later t unframed y a s f r) (room-later t unframed y a s r))

@@ -1,2 +1,4 @@
 pub mod Worth
 pub mod Premises
+pub mod Account
+pub mod Measured
