@@ -73,7 +73,7 @@ row-of rows d i known own =
     even : (x : ℕ) → (x % 2 ≡ 1 → ⊥) → x % 2 ≡ 0
     even x h = omega arith
 
-half-first : (n k : ℕ) → n / 2 ^ suc k ≡ n / 2 / 2 ^ k
+pub half-first : (n k : ℕ) → n / 2 ^ suc k ≡ n / 2 / 2 ^ k
 half-first n k = let e : 1 + k ≡ suc k = omega arith in sym (shr-shr n 1 k ∙ ap (λ (x : ℕ). n / 2 ^ x) e)
 
 -- A number that has every bit of v has its bit k.

@@ -9,3 +9,4 @@ pub mod KnownFrames
 pub mod KnownBlocks
 pub mod KnownShown
 pub mod KnownBounds
+pub mod KnownMends

@@ -1,0 +1,11 @@
+pub mod BitLaws
+pub mod OnesLaws
+pub mod PairLaws
+pub mod RefusalLaws
+pub mod GridLaws
+pub mod RowLaws
+pub mod MendLaws
+pub mod CountLaws
+pub mod ListedLaws
+pub mod OutcomeLaws
+pub mod NumberedLaws
