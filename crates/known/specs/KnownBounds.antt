@@ -75,10 +75,10 @@ known =
     ∷ record { computed = prohibition-told (with-threads (task 0 40 10 0 2 10 2 ∷ upper ∷ lower ∷ [])) 2; by-hand = 0 ∷ 2 ∷ [] }
     -- threads above only, wherever they stand
     ∷ record { computed = joined (prohibition-told exchanged 0 ∷ prohibition-told exchanged 1 ∷ []); by-hand = joined ((0 ∷ 2 ∷ []) ∷ (0 ∷ 0 ∷ []) ∷ []) }
-    -- ceil(P of l / P of h) times B of h: P of h is 10, B 2; P of l is 25, the planner's case, then 20, then 4
+    -- ceil(P of l / P of h) times B of h: P of h is 10, B 2; P of l is 25, the planner's case, then 20, then 5 and 4
     ∷ record { computed = prohibition-told planned 1; by-hand = 0 ∷ 6 ∷ [] }
     ∷ record { computed = prohibition-told (two 3 2 upper (task 0 20 20 0 3 20 0)) 1; by-hand = 0 ∷ 4 ∷ [] }
-    ∷ record { computed = prohibition-told (two 3 2 upper (task 0 20 4 0 3 4 0)) 1; by-hand = 0 ∷ 2 ∷ [] }
+    ∷ record { computed = joined (prohibition-told (two 3 2 upper (task 0 20 5 0 3 5 0)) 1 ∷ prohibition-told (two 3 2 upper (task 0 20 4 0 3 4 0)) 1 ∷ []); by-hand = joined ((0 ∷ 2 ∷ []) ∷ (0 ∷ 2 ∷ []) ∷ []) }
     -- the sum: 1 * 2 + 1 * 1, and for a P of 25 below both 3 * 2 + 2 * 1
     ∷ record { computed = prohibition-told two-marked 2; by-hand = 0 ∷ 3 ∷ [] }
     ∷ record { computed = prohibition-told (with-threads (upper ∷ task 1 25 20 0 2 20 1 ∷ slow ∷ [])) 2; by-hand = 0 ∷ 8 ∷ [] }
@@ -91,6 +91,8 @@ known =
     ∷ record { computed = joined (idle-told example 1 10 ∷ idle-told eventful 1 10 ∷ []); by-hand = joined ((0 ∷ 6 ∷ []) ∷ (0 ∷ 6 ∷ []) ∷ []) }
     -- the longest length, of 32 bits: 429,496,730 periods of 10 begin in it
     ∷ record { computed = idle-told example 0 4294967295; by-hand = 0 ∷ 1717986924 ∷ [] }
+    -- .. and of a thread that takes every step, P, W and D 1: more than 32 bits hold
+    ∷ record { computed = idle-told (below-all 1) 0 4294967295; by-hand = 0 ∷ 4294967296 ∷ [] }
     -- 15: no such thread
     ∷ record { computed = joined (bound-told example 2 ∷ bound-told example 32 ∷ []); by-hand = 15 ∷ 15 ∷ [] }
     ∷ record { computed = joined (prohibition-told example 2 ∷ prohibition-told example 32 ∷ []); by-hand = 15 ∷ 15 ∷ [] }

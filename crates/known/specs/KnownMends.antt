@@ -26,11 +26,14 @@ domains = 0 ∷ 1 ∷ 2 ∷ 3 ∷ 4 ∷ 5 ∷ 6 ∷ 7 ∷ 8 ∷ 9 ∷ 10 ∷ 11 
 abbrev up-to-last : List ℕ
 up-to-last = 3 ∷ 6 ∷ 12 ∷ 24 ∷ 48 ∷ 96 ∷ 192 ∷ 384 ∷ 768 ∷ 1536 ∷ 3072 ∷ 6144 ∷ 12288 ∷ 24576 ∷ 49152 ∷ []
 
-abbrev pub known : List Entry
+abbrev known : List Entry
 known =
     -- rows 3, 6, 4 of K-8 gain the pair 0 to 2, and the list's second place stays; rows 7, 6, 4 come back
     record { computed = mend-told (3 ∷ 6 ∷ 4 ∷ []) 2; by-hand = 0 ∷ 1 ∷ 7 ∷ 6 ∷ 4 ∷ (replicate 13 0 ++ 2 ∷ 7 ∷ []) }
     ∷ record { computed = mend-told (7 ∷ 6 ∷ 4 ∷ []) 0; by-hand = 0 ∷ 0 ∷ 7 ∷ 6 ∷ 4 ∷ replicate 13 0 }
+    -- one place is enough for that pair, and none is too few: 16
+    ∷ record { computed = mend-told (3 ∷ 6 ∷ 4 ∷ []) 1; by-hand = 0 ∷ 1 ∷ 7 ∷ 6 ∷ 4 ∷ (replicate 13 0 ++ 2 ∷ []) }
+    ∷ record { computed = mend-told (3 ∷ 6 ∷ 4 ∷ []) 0; by-hand = 16 ∷ replicate 16 0 }
     -- the chain of 16 gains 105: from a to each domain from a + 2 on; a row has its own domain and all behind it
     ∷ record {
       computed = mend-told (up-to-last ++ 32768 ∷ []) 106;
@@ -46,7 +49,7 @@ known =
           ++ pairs 15 (drop 1 (take 15 domains)) ++ replicate 16 7);
     }
     -- 5 for no row and for 17
-    ∷ record { computed = joined (mend-told [] 1 ∷ mend-told (replicate 17 131071) 1 ∷ []); by-hand = joined ((5 ∷ (replicate 16 0 ++ 7 ∷ [])) ∷ (5 ∷ (replicate 16 0 ++ 7 ∷ [])) ∷ []) }
+    ∷ record { computed = joined (mend-told [] 1 ∷ mend-told (replicate 17 65535) 1 ∷ []); by-hand = joined ((5 ∷ (replicate 16 0 ++ 7 ∷ [])) ∷ (5 ∷ (replicate 16 0 ++ 7 ∷ [])) ∷ []) }
     -- 6 with the first row at fault: a bit for domain 2 of two; and two rows that lack their own, with no place for the pairs
     ∷ record { computed = mend-told (1 ∷ 6 ∷ []) 1; by-hand = 6 ∷ 1 ∷ (replicate 16 0 ++ 7 ∷ []) }
     ∷ record { computed = mend-told (3 ∷ 4 ∷ 1 ∷ []) 0; by-hand = 6 ∷ 1 ∷ replicate 16 0 }
