@@ -6,6 +6,9 @@ mod write;
 
 pub use read::Answers;
 pub use read::calls_on;
+pub use read::is_same;
+pub use write::number_of;
+pub use write::wanted;
 pub use write::written;
 
 // A reader's refusal is counted by its number, a writer's answer from 20 on, the host's from 30 on.

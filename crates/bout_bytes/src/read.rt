@@ -39,7 +39,8 @@ fn told_of(v: Verdict) -> Told {
     }
 }
 
-fn is_same(ours: Reading, theirs: rival_bytes::Reading) -> bool {
+// Whether both readers say the same, and hand the same table over.
+pub fn is_same(ours: Reading, theirs: rival_bytes::Reading) -> bool {
     let v = ours.verdict;
     let t = ours.table;
     let u = theirs.table;

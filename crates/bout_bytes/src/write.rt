@@ -13,7 +13,7 @@ use writer::Writing;
 const BEFORE: u8 = 170;
 
 // The place behind what was written, or 100,000 and the refusal.
-fn number_of(w: Writing) -> usize {
+pub fn number_of(w: Writing) -> usize {
     match w {
         Writing::Written(n) => n,
         Writing::NotLegal => 100011,
@@ -32,7 +32,7 @@ fn put(t: Table, buf: &mut [u8], room: usize, at: usize) -> usize {
 }
 
 // What the second writer says of so many bytes.
-fn wanted(t: Table, len: usize, room: usize, at: usize) -> usize {
+pub fn wanted(t: Table, len: usize, room: usize, at: usize) -> usize {
     if !rival_table::legal(t) {
         return 100011;
     }

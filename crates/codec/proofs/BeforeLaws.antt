@@ -26,7 +26,7 @@ use Rattle.numeral.proofs.NumberLaws.{encode-all-append, encode-all-last}
 use Rattle.numeral.proofs.Runs.{Reads, reads-join, reads-split, reads-number}
 
 -- What holds at each place of a list, and of one more number, holds at each place of the longer list.
-each-next : (P : List ℕ → ℕ → Type 0) (vs : List ℕ) (v : ℕ) → ((k : ℕ) → k < length vs → P (take k vs) (getD vs k 0)) → P vs v
+pub each-next : (P : List ℕ → ℕ → Type 0) (vs : List ℕ) (v : ℕ) → ((k : ℕ) → k < length vs → P (take k vs) (getD vs k 0)) → P vs v
     → (k : ℕ) → k < length (vs ++ (v ∷ [])) → P (take k (vs ++ (v ∷ []))) (getD (vs ++ (v ∷ [])) k 0)
 each-next P vs v h p k l =
     ⊎-elim
@@ -76,9 +76,9 @@ one-or-two v e =
     (λ t. let u : eqb v 2 ≡ true = rw t at e in omega (arith, eqb-true v 2 u))
 
 -- Each number is one that the bytes can hold, and the second is a count of domains.
-record Small (vs : List ℕ) : Type 0 where
-  each : (k : ℕ) → getD vs k 0 < 65536
-  domains : getD vs 1 0 ≤ 16
+pub record Small (vs : List ℕ) : Type 0 where
+  pub each : (k : ℕ) → getD vs k 0 < 65536
+  pub domains : getD vs 1 0 ≤ 16
 
 field-small : (x d : ℕ) (fs : List ℕ) (v : ℕ) → d < 65536 → ((j : ℕ) → getD fs j 0 < 65536) → field-fault x d fs v ≡ 0 → v < 65536
 unfolding field-fault
@@ -119,7 +119,7 @@ small-next vs v h e = record { each = here; domains = second vs h e }
     second (x ∷ []) g f = omega (arith, within-high domain-counts v (passes (within domain-counts v) 0 5 (omega arith) f .0))
     second (x ∷ d ∷ ws) g f = g .domains
 
-before-small : {s vs : List ℕ} → Before s vs → (k : ℕ) → Small (take k vs)
+pub before-small : {s vs : List ℕ} → Before s vs → (k : ℕ) → Small (take k vs)
 before-small b zero = record { each = λ k. omega arith; domains = omega arith }
 before-small {s} {vs} b (suc k) =
     by-test (ltb k (length vs))

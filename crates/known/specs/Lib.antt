@@ -10,3 +10,4 @@ pub mod KnownBlocks
 pub mod KnownShown
 pub mod KnownBounds
 pub mod KnownMends
+pub mod KnownSheets

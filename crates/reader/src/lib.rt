@@ -13,7 +13,7 @@ mod steps;
 
 use parts::read_rest;
 use parts::read_rows;
-use parts::refused_reading;
+pub use parts::refused_reading;
 use steps::read_ranged;
 
 // Where a reader stands: the refusal met (0: none), the start of the last number, the start of the next, the last number.

@@ -1,3 +1,2 @@
-pub mod DecimalLaws
 pub mod LineLaws
 pub mod TextLaws

@@ -6,9 +6,9 @@ use native.Mathlib.Omega.{arith}
 use native.Mathlib.Numerals.{add-one}
 use lib.ListN.{length, getD, take, length-append}
 use lib.Seq.{take-suc, length-take-le}
-use Rattle.report.specs.Decimal.{decimal}
+use Rattle.decimal.specs.Decimal.{decimal}
 use Rattle.report.specs.Lines.{counted-line, step-line, answer, trace-lines, refused-line, refused-word, space, line-feed}
-use Rattle.report.proofs.DecimalLaws.{decimal-long}
+use Rattle.decimal.proofs.DecimalLaws.{decimal-long}
 
 -- Two runs of bytes take no more than the most of each.
 pub join-long : (xs ys : List ℕ) (m n : ℕ) → length xs ≤ m → length ys ≤ n → length (xs ++ ys) ≤ m + n

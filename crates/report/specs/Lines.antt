@@ -5,7 +5,7 @@ use lib.Dec.{eqb, ltb}
 use Rattle.basis.specs.Tests.{pick}
 use Rattle.walk.specs.declared.Answer.{Answer}
 use Rattle.walk.specs.declared.Answer.the-variants.{Ran, IdleFor, Idle}
-use Rattle.report.specs.Decimal.{decimal}
+use Rattle.decimal.specs.Decimal.{decimal}
 
 abbrev pub space : List ℕ
 space = 0x20 ∷ []

@@ -1,5 +1,5 @@
 -- To open it is to open all that a printed line computes with.
-use Rattle.report.specs.Decimal.{decimal-in, decimal}
+use Rattle.decimal.specs.Decimal.{decimal-in, decimal}
 use Rattle.report.specs.Lines.{threads-line, step-line, answer, trace-lines, end-line, refused-line}
 
 unfoldable pub opened : {A : Type 0} → A → A

@@ -4,7 +4,7 @@ use mathlib.Core.Path.{_≡_, refl}
 use mathlib.Core.List.{List, [], _∷_}
 use Rattle.basis.specs.Tests.{pick}
 use Rattle.walk.specs.declared.Answer.the-variants.{Ran, IdleFor, Idle}
-use Rattle.report.specs.Decimal.{decimal-in, decimal}
+use Rattle.decimal.specs.Decimal.{decimal-in, decimal}
 use Rattle.report.specs.Lines.{threads-line, step-line, answer, trace-lines, end-line, refused-line}
 
 abbrev computed : List (List ℕ)

@@ -8,11 +8,11 @@ ghost use Rattle.report.specs.Printing.{told, printing, printed};
 
 mod text;
 
+use decimal::put_number;
 use text::lay;
 use text::print_counted;
 use text::put;
 use text::put_line;
-use text::put_number;
 
 // Printed up to before a place, or too little room.
 pub enum Printing {

@@ -59,7 +59,7 @@ fn field(f: Thread, k: usize) -> u16 {
 }
 
 // Number k of a table.
-fn value(t: Table, k: usize) -> u16 {
+pub fn value(t: Table, k: usize) -> u16 {
     match k {
         0 => t.version as u16,
         1 => t.domains as u16,

@@ -16,7 +16,7 @@ pub struct Reading {
     pub table: Table,
 }
 
-fn no_table() -> Table {
+pub fn no_table() -> Table {
     let none = Thread {
         domain: 0,
         priority: 0,
@@ -36,7 +36,7 @@ fn no_table() -> Table {
     }
 }
 
-fn no_gap() -> Gap {
+pub fn no_gap() -> Gap {
     Gap {
         found: false,
         a: 0,
@@ -45,7 +45,7 @@ fn no_gap() -> Gap {
     }
 }
 
-fn refused(refusal: u8, place: usize, gap: Gap) -> Reading {
+pub fn refused(refusal: u8, place: usize, gap: Gap) -> Reading {
     Reading {
         refusal,
         place,
@@ -70,7 +70,7 @@ fn with_field(f: Thread, k: usize, v: u16) -> Thread {
 }
 
 // The table with number k.
-fn with_number(t: Table, k: usize, v: u16) -> Table {
+pub fn with_number(t: Table, k: usize, v: u16) -> Table {
     let mut u = t;
     let i = thread_of(t, k) % 32;
     match k {
@@ -120,7 +120,7 @@ fn unless(good: bool, refusal: u8) -> u8 {
 }
 
 // The refusal of number k, which the table has already, or 0.
-fn judge(t: Table, k: usize, v: u16) -> u8 {
+pub fn fault(t: Table, k: usize, v: u16) -> u8 {
     let rows = t.rows;
     match k {
         0 => unless((v == 1) | (v == 2), 4),
@@ -139,7 +139,7 @@ fn judge(t: Table, k: usize, v: u16) -> u8 {
 }
 
 // After the last row the first gap, if there is one.
-fn gap_after(t: Table, k: usize) -> Gap {
+pub fn gap_after(t: Table, k: usize) -> Gap {
     let rows = t.rows;
     if std::num::wrapping_add_usize(row_of(k), 1) == t.domains as usize {
         return rival_table::first_gap(rows, t.domains);
@@ -169,7 +169,7 @@ pub fn read(s: &[u8]) -> Reading {
             return refused(cut.refusal, at, no_gap());
         }
         t = with_number(t, k, values[k]);
-        let why = judge(t, k, values[k]);
+        let why = fault(t, k, values[k]);
         if why != 0 {
             return refused(why, at, no_gap());
         }

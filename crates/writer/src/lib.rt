@@ -8,6 +8,7 @@ mod put;
 mod size;
 
 use put::put_table;
+pub use put::write_numbers;
 use size::table_size;
 
 // Written up to before a place, or the refusal.

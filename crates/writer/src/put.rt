@@ -29,7 +29,7 @@ fn write_number(buf: &mut [u8], at: usize, v: u16) -> usize
     third + 1
 }
 
-fn write_numbers(buf: &mut [u8], at: usize, vs: &[u16]) -> usize
+pub fn write_numbers(buf: &mut [u8], at: usize, vs: &[u16]) -> usize
     requires { ⌜ Room (now buf) at (encode-all (now vs)) ⌝ }
     ensures { λ r. ⌜ Put (now (buf .entry)) at (now (buf .exit)) r (encode-all (now (vs .entry))) ⌝ }
 {

@@ -7,9 +7,9 @@ use lib.ListN.{length, replicate}
 use lib.Seq.{length-take-le}
 use Rattle.writer.specs.Buffer.{Put}
 use Rattle.writer.proofs.WriterLaws.{put-join, put-length}
-use Rattle.report.specs.Decimal.{decimal}
+use Rattle.decimal.specs.Decimal.{decimal}
 use Rattle.report.specs.Lines.{counted-line}
-use Rattle.report.proofs.DecimalLaws.{decimal-long}
+use Rattle.decimal.proofs.DecimalLaws.{decimal-long}
 use Rattle.report.proofs.LineLaws.{join-long, counted-long}
 use Rattle.report.proofs.TextLaws.{room-behind, text-put}
 use borrow.Author.Needs.{needs}

@@ -5,9 +5,9 @@ use native.Mathlib.Omega.{arith}
 use lib.ListN.{length}
 use Rattle.writer.specs.Buffer.{Put}
 use Rattle.writer.proofs.WriterLaws.{put-join, put-length}
-use Rattle.report.specs.Decimal.{decimal}
+use Rattle.decimal.specs.Decimal.{decimal}
 use Rattle.report.specs.Lines.{space, answer, choice, step-line}
-use Rattle.report.proofs.DecimalLaws.{decimal-short}
+use Rattle.decimal.proofs.DecimalLaws.{decimal-short}
 use borrow.Author.Needs.{needs}
 use Rattle.report.proofs.text.put_line.Statement.{statement}
 use Rattle.report.proofs.text.put_line.Tie as tie

@@ -1,7 +1,7 @@
 -- The letter, and behind it a byte's digits, which are three at most.
 use native.Mathlib.Omega.{arith}
 use Rattle.writer.proofs.WriterLaws.{put-join, put-length}
-use Rattle.report.proofs.DecimalLaws.{decimal-short}
+use Rattle.decimal.proofs.DecimalLaws.{decimal-short}
 use borrow.Author.Needs.{needs}
 use Rattle.report.proofs.text.put_named.Statement.{statement}
 use Rattle.report.proofs.text.put_named.Tie as tie

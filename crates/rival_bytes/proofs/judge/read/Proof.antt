@@ -61,14 +61,14 @@ array-read-with-number c = search needs
 with-number-requires : tie.Need-with-number-requires Inv-loop μ-loop
 with-number-requires c κs = search needs
 
-mul-judge : tie.Need-mul-judge Inv-loop μ-loop
-mul-judge c = search needs
+mul-fault : tie.Need-mul-fault Inv-loop μ-loop
+mul-fault c = search needs
 
-array-read-judge : tie.Need-array-read-judge Inv-loop μ-loop
-array-read-judge c = search needs
+array-read-fault : tie.Need-array-read-fault Inv-loop μ-loop
+array-read-fault c = search needs
 
-judge-requires : tie.Need-judge-requires Inv-loop μ-loop
-judge-requires c κs = search needs
+fault-requires : tie.Need-fault-requires Inv-loop μ-loop
+fault-requires c κs = search needs
 
 no-gap-requires-4 : tie.Need-no-gap-requires-4 Inv-loop μ-loop
 no-gap-requires-4 c κs = search needs
@@ -129,9 +129,9 @@ read-spec =
     mul-with-number
     array-read-with-number
     with-number-requires
-    mul-judge
-    array-read-judge
-    judge-requires
+    mul-fault
+    array-read-fault
+    fault-requires
     no-gap-requires-4
     refused-requires-3
     returns-4

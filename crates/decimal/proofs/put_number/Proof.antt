@@ -4,10 +4,10 @@ use mathlib.Core.Path.{_≡_, refl, _∙_, ap}
 use native.Mathlib.Omega.{arith}
 use lib.ListN.{length, set, length-set}
 use lib.Seq.{sets}
-use Rattle.report.proofs.DecimalLaws.{last-digits, digit-put, digits-end}
+use Rattle.decimal.proofs.DecimalLaws.{last-digits, digit-put, digits-end}
 use borrow.Author.Needs.{needs}
-use Rattle.report.proofs.text.put_number.Statement.{statement}
-use Rattle.report.proofs.text.put_number.Tie as tie
+use Rattle.decimal.proofs.put_number.Statement.{statement}
+use Rattle.decimal.proofs.put_number.Tie as tie
 
 abbrev Inv-loop : tie.InvT-loop
 Inv-loop buf₀ at n end k₀ rest₀ buf k rest =

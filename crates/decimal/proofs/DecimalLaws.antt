@@ -10,7 +10,7 @@ use lib.Dec.{ltb, leb}
 use borrow.Author.Tests.{lt-ltb, le-ltb, leb-true, leb-false, ltb-true, ltb-false}
 use Rattle.basis.specs.Tests.{pick}
 use Rattle.basis.proofs.TestLaws.{either, by-test}
-use Rattle.report.specs.Decimal.{digit, decimal-in, decimal}
+use Rattle.decimal.specs.Decimal.{digit, decimal-in, decimal}
 
 -- No more digits than there are places.
 pub decimal-in-long : (k n : ℕ) → length (decimal-in k n) ≤ k

@@ -1,9 +1,9 @@
 -- A digit is told off each turn, and the last number is one digit.
 use native.Mathlib.Omega.{arith}
-use Rattle.report.proofs.DecimalLaws.{Counting, counting-starts, counting-goes, counting-ends}
+use Rattle.decimal.proofs.DecimalLaws.{Counting, counting-starts, counting-goes, counting-ends}
 use borrow.Author.Needs.{needs}
-use Rattle.report.proofs.text.places.Statement.{statement}
-use Rattle.report.proofs.text.places.Tie as tie
+use Rattle.decimal.proofs.places.Statement.{statement}
+use Rattle.decimal.proofs.places.Tie as tie
 
 abbrev Inv-loop : tie.InvT-loop
 Inv-loop n k₀ rest₀ k rest = Counting n k rest

@@ -1,0 +1,54 @@
+-- `sheets::main` is safe and ends: k counts up to 1000.
+use Prim.Native.Nat.{_-_}
+use borrow.Author.Needs.{needs}
+use Rattle.sheets.proofs.main.Statement.{statement}
+use Rattle.sheets.proofs.main.Tie as tie
+
+abbrev Inv-loop : tie.InvT-loop
+Inv-loop tally₀ k₀ tally k = Unit {0}
+
+abbrev μ-loop : tie.MeasureT-loop
+μ-loop tally₀ k₀ tally k = 1000 - k
+
+loop-holds : tie.Need-loop-holds Inv-loop μ-loop
+loop-holds c = search needs
+
+part-requires : tie.Need-part-requires Inv-loop μ-loop
+part-requires c κs = search needs
+
+play-table-requires : tie.Need-play-table-requires Inv-loop μ-loop
+play-table-requires c κs = search needs
+
+add-k : tie.Need-add-k Inv-loop μ-loop
+add-k c = search needs
+
+loop-less : tie.Need-loop-less Inv-loop μ-loop
+loop-less c = search needs
+
+loop-again : tie.Need-loop-again Inv-loop μ-loop
+loop-again c = search needs
+
+report-reads-requires : tie.Need-report-reads-requires Inv-loop μ-loop
+report-reads-requires c κs = search needs
+
+report-requires : tie.Need-report-requires Inv-loop μ-loop
+report-requires c κs = search needs
+
+returns : tie.Need-returns Inv-loop μ-loop
+returns c = search needs
+
+pub main-spec : {M : Type 1} → statement M
+main-spec =
+    tie.close
+    (tie.spec
+    Inv-loop
+    μ-loop
+    loop-holds
+    part-requires
+    play-table-requires
+    add-k
+    loop-less
+    loop-again
+    report-reads-requires
+    report-requires
+    returns)
