@@ -11,3 +11,4 @@ pub mod KnownShown
 pub mod KnownBounds
 pub mod KnownMends
 pub mod KnownSheets
+pub mod KnownCleanings

@@ -1,5 +1,6 @@
 // One input for each refusal number, with what the call answers: the number, the call, and the input in words.
 use actuator::Actuator;
+use cleaning::Report;
 use example::example;
 use reader::Verdict;
 use same::same_state;
@@ -310,6 +311,30 @@ fn block_refusals() {
     );
 }
 
+fn clean_number(r: Report) -> u8 {
+    match r {
+        Report::Cleaned(_) => 0,
+        Report::NotLegal => 11,
+        Report::NoThread => 21,
+        Report::NoRoom => 16,
+    }
+}
+
+// Into 64 places, of which the first tells whether one was written.
+fn cleans(t: Table, trace: &[u8], what: &[u8]) {
+    let l = listed::make_list(t, trace);
+    let r = l.report;
+    let first = l.list[0];
+    say(clean_number(r));
+    io::write_all(1, b": clean, ");
+    io::write_all(1, what);
+    if (first.step == 0) & (first.before == 0) & (first.after == 0) {
+        io::write_all(1, b"; list as it was\n");
+        return;
+    }
+    io::write_all(1, b"; list written\n");
+}
+
 fn main() {
     reads(
         b"\x01\x02\x02\x03\x02\x01\x1E\x0A\x00\x04\x0A\x02\x00\x14\x0A\x00\x03\x0A",
@@ -410,5 +435,13 @@ fn main() {
     drives(
         actuator::start(0, 0, 0),
         b"example E, an actuator with rate 0\n",
+    );
+    cleans(no_table(), b"\x00", b"a table of zeros");
+    cleans(e, b"\x00\x01\x02", b"example E with a byte 2");
+    cleans(e, b"\x00\x01\x22", b"example E with a byte 34");
+    cleans(
+        e,
+        b"\x00\x01\x00\x01\x00\x01\x00\x01\x00\x01\x00\x01\x00\x01\x00\x01\x00\x01\x00\x01\x00\x01\x00\x01\x00\x01\x00\x01\x00\x01\x00\x01\x00\x01\x00\x01\x00\x01\x00\x01\x00\x01\x00\x01\x00\x01\x00\x01\x00\x01\x00\x01\x00\x01\x00\x01\x00\x01\x00\x01\x00\x01\x00\x01\x00\x01\x00\x01\x00\x01\x00\x01\x00\x01\x00\x01\x00\x01\x00\x01\x00\x01\x00\x01\x00\x01\x00\x01\x00\x01\x00\x01\x00\x01\x00\x01\x00\x01\x00\x01\x00\x01\x00\x01\x00\x01\x00\x01\x00\x01\x00\x01\x00\x01\x00\x01\x00\x01\x00\x01\x00\x01\x00\x01\x00\x01\x00\x01\x00\x01",
+        b"example E, 65 cleanings into 64 places",
     );
 }

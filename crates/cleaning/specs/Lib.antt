@@ -1,0 +1,5 @@
+pub mod Cleanings
+pub mod Scan
+pub mod Plain
+pub mod Opened
+pub mod Worked
