@@ -1,4 +1,6 @@
 // The actuator above the scheduler: one call makes the scheduler's step and the actuator's move.
+#![tactic(auto)]
+
 ghost use Rattle.std.specs.Prelude.{◌≡◌, []};
 ghost use Rattle.actuator.specs.Motion.{start as the-start};
 ghost use Rattle.frame.specs.Mode.{unframed, framed};
@@ -14,7 +16,7 @@ mod motion;
 use motion::{is_ranged, move_to, stand};
 
 // Position and last command in thousandths of a degree, the most that a step moves, and the pitch thread.
-#[derive(Drop)]
+#[derive(Clone, Copy)]
 pub struct Actuator {
     pub position: i32,
     pub command: i32,
@@ -23,7 +25,7 @@ pub struct Actuator {
 }
 
 // On a refusal the state and the actuator are those that were handed in.
-#[derive(Drop)]
+#[derive(Clone, Copy)]
 pub struct Driven {
     pub outcome: Outcome,
     pub state: State,

@@ -1,4 +1,6 @@
 // Admission: the bound of each thread by time-demand analysis, and beside it the prohibition time, and the most idle steps on a thread's account.
+#![tactic(auto)]
+
 ghost use Rattle.std.specs.Prelude.{◌≡◌};
 ghost use Rattle.admission.specs.Bounded.{told, bounding};
 ghost use Rattle.admission.specs.Tried.{count_given};
@@ -21,21 +23,21 @@ use prohibited::prohibition_time;
 use worst::worst_of;
 
 // Where the search for a bound ended: at a length that holds its demand, or nowhere up to the deadline.
-#[derive(Drop)]
+#[derive(Clone, Copy)]
 pub enum Reached {
     At(u16),
     Nowhere,
 }
 
 // A search for a bound: where it ended, and the number of lengths whose demand it worked out.
-#[derive(Drop)]
+#[derive(Clone, Copy)]
 pub struct Search {
     pub reached: Reached,
     pub tried: u16,
 }
 
 // The bound of a thread.
-#[derive(Drop)]
+#[derive(Clone, Copy)]
 pub enum Bound {
     Within(u16),
     None,
@@ -44,14 +46,14 @@ pub enum Bound {
 }
 
 // The bound, and the number of lengths whose demand was worked out: 0 on a refusal.
-#[derive(Drop)]
+#[derive(Clone, Copy)]
 pub struct Searched {
     pub bound: Bound,
     pub tried: u16,
 }
 
 // Every thread has a bound, or the first in table order that has none.
-#[derive(Drop)]
+#[derive(Clone, Copy)]
 pub enum Admitting {
     Admitted,
     Without(u8),
@@ -60,7 +62,7 @@ pub enum Admitting {
 
 // The bounds are zero unless the table is admitted, and past its last thread. `tried` has, of each thread searched, the number of
 // lengths whose demand was worked out: of all threads, or up to and with the first that has no bound; 0 for the others.
-#[derive(Drop)]
+#[derive(Clone, Copy)]
 pub struct Admission {
     pub answer: Admitting,
     pub bounds: [u16; 32],
@@ -68,14 +70,14 @@ pub struct Admission {
 }
 
 // The most lengths that the searches of a table can try.
-#[derive(Drop)]
+#[derive(Clone, Copy)]
 pub enum WorstCount {
     Lengths(u32),
     NotLegal,
 }
 
 // The prohibition time of a thread.
-#[derive(Drop)]
+#[derive(Clone, Copy)]
 pub enum ProhibitionTime {
     Steps(u64),
     NotLegal,
@@ -83,7 +85,7 @@ pub enum ProhibitionTime {
 }
 
 // The most steps that the processor idles on a thread's account.
-#[derive(Drop)]
+#[derive(Clone, Copy)]
 pub enum IdleMost {
     Steps(u64),
     NotLegal,

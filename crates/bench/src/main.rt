@@ -1,4 +1,6 @@
 // Program bench: a table from table.bin, step bytes from standard input, and a line a step to standard output.
+#![tactic(auto)]
+
 ghost use Rattle.table.specs.Legal.{Legal};
 
 use reader::Verdict;

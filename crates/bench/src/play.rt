@@ -10,7 +10,7 @@ use scheduler::State;
 use table::Table;
 
 // After some steps: the state, the number of the refusal that ended the run (0: none) and the place after the lines.
-#[derive(Drop)]
+#[derive(Clone, Copy)]
 pub struct Played {
     pub state: State,
     pub why: u8,

@@ -12,7 +12,7 @@ use scheduler::State;
 use table::Table;
 
 // A run after a turn: its state, how many bytes are there of a step that is not whole, and whether more may come.
-#[derive(Drop)]
+#[derive(Clone, Copy)]
 pub struct Turn {
     pub state: State,
     pub have: usize,

@@ -1,4 +1,6 @@
 // A block of steps in one call: the end state and one byte a step, written into a lent part of a record.
+#![tactic(auto)]
+
 ghost use Rattle.std.specs.Prelude.{◌≡◌};
 ghost use Rattle.frame.specs.Mode.{unframed, framed};
 ghost use Rattle.block.specs.Block.{block, blocked_of};
@@ -21,7 +23,7 @@ use play::play;
 use stretch::play_in_frame;
 
 // 0, a state, and the place behind the last byte; or the number of the refusal, the state that was handed in, and 0.
-#[derive(Drop)]
+#[derive(Clone, Copy)]
 pub struct Ended {
     pub number: u8,
     pub state: State,

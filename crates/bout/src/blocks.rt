@@ -13,7 +13,7 @@ use tally::WRONG;
 const BEFORE: u8 = 170;
 
 // What single steps give: the number that refuses a block (0: none), the state after it, the record, and the place behind the last byte.
-#[derive(Drop)]
+#[derive(Clone, Copy)]
 struct Singles {
     number: u8,
     state: State,

@@ -1,4 +1,6 @@
 // Both schedulers, the proved one and crate rival, on one input: the kind of what they say where they agree, and WRONG where not.
+#![tactic(auto)]
+
 mod blocks;
 mod play;
 mod views;

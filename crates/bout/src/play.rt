@@ -10,7 +10,7 @@ use table::{Mark, Marking, Table, Thread};
 use tally::WRONG;
 
 // What a step gave, by its kind, and the state after it.
-#[derive(Drop)]
+#[derive(Clone, Copy)]
 pub struct Played {
     pub kind: u32,
     pub state: State,

@@ -1,5 +1,7 @@
 // The proved reader and writer, the host's three calls and crate rival_bytes on one input: the kind of what they say where they
 // agree, and WRONG where not.
+#![tactic(auto)]
+
 mod host_calls;
 mod read;
 mod write;

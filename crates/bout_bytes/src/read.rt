@@ -5,7 +5,7 @@ use same::same_table;
 use tally::WRONG;
 
 // The number, its place and the three domains.
-#[derive(Drop)]
+#[derive(Clone, Copy)]
 struct Told {
     number: u8,
     place: usize,
@@ -54,7 +54,7 @@ pub fn is_same(ours: Reading, theirs: rival_bytes::Reading) -> bool {
 }
 
 // What came up: of the two readers, of the host's mark and of its bound.
-#[derive(Drop)]
+#[derive(Clone, Copy)]
 pub struct Answers {
     pub read: u32,
     pub mark: u32,

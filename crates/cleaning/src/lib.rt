@@ -1,4 +1,6 @@
 // How often to clean the shared cache: the cleanings of a recorded trace, in a lent list.
+#![tactic(auto)]
+
 ghost use Rattle.std.specs.Prelude.{◌≡◌, ◌≤◌, length, drop};
 ghost use Rattle.cleaning.specs.Cleanings.{nobody, latest, last_run, cleaned, known, listing, outcome};
 ghost use Rattle.cleaning.specs.Scan.{none, first, Ways, passes, barred, scanned, following, pasted, tallied, reported, entries};
@@ -7,7 +9,7 @@ use flow::row;
 use table::{Table, legal};
 
 // At a step, between the thread that last ran before it and the thread that runs.
-#[derive(Drop)]
+#[derive(Clone, Copy)]
 pub struct Cleaning {
     pub step: u64,
     pub before: u8,
@@ -15,7 +17,7 @@ pub struct Cleaning {
 }
 
 // How many cleanings there are, or the refusal.
-#[derive(Drop)]
+#[derive(Clone, Copy)]
 pub enum Report {
     Cleaned(usize),
     NotLegal,

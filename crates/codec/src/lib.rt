@@ -1,4 +1,6 @@
 // The bytes of a table: reading and writing them, and what joins the two (proofs/RoundTrip.antt, proofs/JudgingLaws.antt).
+#![tactic(auto)]
+
 ghost use Rattle.std.specs.Prelude.{◌≡◌};
 ghost use Rattle.numeral.specs.NumberRules.{Bytes};
 ghost use Rattle.reader.specs.Reader.{reading, read_of};

@@ -1,4 +1,6 @@
 // Random legal tables, states that fit them, frames, step bytes and masks of events, each worked out from a seed.
+#![tactic(auto)]
+
 mod frames;
 mod inputs;
 mod states;

@@ -1,4 +1,6 @@
 // A number as text: its decimal digits, put into a lent buffer.
+#![tactic(auto)]
+
 ghost use Rattle.std.specs.Prelude.{[], ◌∷◌, ◌≡◌, length, ◌%◌, ◌<◌};
 ghost use Rattle.writer.specs.Buffer.{Room, Put};
 ghost use Rattle.decimal.specs.Decimal.{digit, decimal};

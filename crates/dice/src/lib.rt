@@ -1,4 +1,5 @@
 // Random numbers that are the same in each run: draw k of a seed is worked out from the two alone, and no call changes a seed.
+#![tactic(auto)]
 
 // A product of the lower half, whose two halves are folded into one another.
 fn stirred(x: u64) -> u64 {

@@ -1,4 +1,6 @@
 // Random drives, some of them damaged, each compared with what the second actuator gives.
+#![tactic(auto)]
+
 use actuator::{Actuator, Driven};
 use dice::{below, below8, part, seldom};
 use example::{example, story};
@@ -195,7 +197,7 @@ fn count_drive(tally: &mut Tally, number: u32, thread: u8, good: bool) {
 }
 
 // A drive, and whether it agrees with the second actuator.
-#[derive(Drop)]
+#[derive(Clone, Copy)]
 struct Drive {
     driven: Driven,
     good: bool,
@@ -224,7 +226,7 @@ fn both_on(
 }
 
 // A run under way.
-#[derive(Drop)]
+#[derive(Clone, Copy)]
 struct Game {
     state: State,
     actuator: Actuator,

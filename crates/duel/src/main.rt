@@ -1,5 +1,7 @@
 // Plays random tables, states and frames, legal and damaged, with both schedulers, the proved one and crate rival. Prints how many of
 // each kind were played, and last how often the two disagreed.
+#![tactic(auto)]
+
 mod report;
 
 use dice::{part, seldom};

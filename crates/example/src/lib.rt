@@ -1,4 +1,6 @@
 // The tables of the worked examples: example E of document 01, and the user's story.
+#![tactic(auto)]
+
 ghost use Rattle.std.specs.Prelude.{◌≡◌};
 ghost use Rattle.example.specs.Example.{task as the-task, example as the-example};
 ghost use Rattle.example.specs.Story.{story as the-story};

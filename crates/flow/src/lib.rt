@@ -1,4 +1,6 @@
 // A flow relation over at most 16 domains: who may flow to whom, and the first missing pair.
+#![tactic(auto)]
+
 ghost use Rattle.std.specs.Prelude.{◌≡◌, ℕ, ◌/◌, ◌%◌, ◌^◌, true, false, eqb, get_or};
 ghost use Rattle.std.specs.Int.Bits.{bit_and};
 ghost use Rattle.flow.specs.Flow.{flows, row_ok};
@@ -52,7 +54,7 @@ pub fn row_passes(domains: u8, i: u8, v: u16) -> bool
 }
 
 // The first domains that break transitivity: a flows to b, b to c, and a not to c.
-#[derive(Drop)]
+#[derive(Clone, Copy)]
 pub enum Gap {
     At { a: u8, b: u8, c: u8 },
     None,

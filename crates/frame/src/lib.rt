@@ -1,4 +1,6 @@
 // A repeating frame of windows: whether it passes with a table, and in which window a clock falls.
+#![tactic(auto)]
+
 ghost use Rattle.std.specs.Prelude.{◌≡◌, ◌≤◌};
 ghost use Rattle.basis.specs.Tests.{every};
 ghost use Rattle.frame.specs.Frame.{window, window_ok, frame_ok, frame_length, window_within, window_at, domain_at, Timed};
@@ -6,14 +8,14 @@ ghost use Rattle.frame.specs.Frame.{window, window_ok, frame_ok, frame_length, w
 use table::{Range, Table, in_range};
 
 // The domain that a window is of, and how many steps it takes.
-#[derive(Drop)]
+#[derive(Clone, Copy)]
 pub struct Window {
     pub domain: u8,
     pub length: u16,
 }
 
 // The first count windows are in use.
-#[derive(Drop)]
+#[derive(Clone, Copy)]
 pub struct Frame {
     pub count: u8,
     pub windows: [Window; 64],

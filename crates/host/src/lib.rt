@@ -1,4 +1,6 @@
 // What the turbine's host in C calls: numbers and a byte slice, which C passes as a pointer and a length.
+#![tactic(auto)]
+
 ghost use Rattle.std.specs.Prelude.{◌≡◌, ◌<◌};
 ghost use Rattle.numeral.specs.NumberRules.{Bytes};
 ghost use Rattle.reader.specs.Reader.{told as told-verdict};

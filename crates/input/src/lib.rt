@@ -1,8 +1,10 @@
 // Reading a file or standard input into a buffer.
+#![tactic(auto)]
+
 ghost use Rattle.std.specs.Prelude.{◌≤◌, ◌<◌, ◌≡◌, length, take};
 
 // How many bytes stand at the start of a buffer; whether that is all there is room for or all there are; whether to read on.
-#[derive(Drop)]
+#[derive(Clone, Copy)]
 pub struct Filled {
     pub count: usize,
     pub whole: bool,

@@ -1,4 +1,6 @@
 // What document 01 knows by hand and asks to be run: K-11 and K-12.
+#![tactic(auto)]
+
 use reader::Verdict;
 use scheduler::{Outcome, State};
 use table::Table;

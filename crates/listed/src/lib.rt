@@ -1,4 +1,6 @@
 // The cleanings of a trace in a list of 64 places that is handed back by value: whoever calls this lends no list.
+#![tactic(auto)]
+
 ghost use Rattle.std.specs.Prelude.{◌≡◌, replicate};
 ghost use Rattle.cleaning.specs.Cleanings.{listing, outcome};
 ghost use Rattle.cleaning.specs.Scan.{none};
@@ -6,7 +8,7 @@ ghost use Rattle.cleaning.specs.Scan.{none};
 use cleaning::{Cleaning, Report};
 use table::Table;
 
-#[derive(Drop)]
+#[derive(Clone, Copy)]
 pub struct Listed {
     pub report: Report,
     pub list: [Cleaning; 64],

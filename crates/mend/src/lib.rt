@@ -1,4 +1,6 @@
 // Mending a flow policy: the smallest transitive relation that holds the rows given, and the pairs that were added.
+#![tactic(auto)]
+
 ghost use Rattle.std.specs.Prelude.{◌≡◌, ◌≤◌, length, replicate};
 ghost use Rattle.mend.specs.Mend.{full, bad_row, sought, outcome, mending};
 
@@ -11,7 +13,7 @@ use grid::mended;
 use pairs::{count_added, list_added};
 
 // How many pairs were added, or the refusal.
-#[derive(Drop)]
+#[derive(Clone, Copy)]
 pub enum Mending {
     Added(usize),
     BadCount,
@@ -20,14 +22,14 @@ pub enum Mending {
 }
 
 // The answer, and the rows mended; zeros behind the last domain, and on a refusal.
-#[derive(Drop)]
+#[derive(Clone, Copy)]
 pub struct Mended {
     pub answer: Mending,
     pub rows: [u16; 16],
 }
 
 // The first row that does not pass, if there is one.
-#[derive(Drop)]
+#[derive(Clone, Copy)]
 enum Fault {
     Row(u8),
     None,

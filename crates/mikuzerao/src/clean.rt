@@ -13,7 +13,7 @@ use sentence::explain_byte;
 use table::Table;
 
 // The trace so far: how many bytes it had, who ran last (255 nobody), how many cleanings there were, and whether more may come.
-#[derive(Drop)]
+#[derive(Clone, Copy)]
 struct So {
     steps: u64,
     last: u8,
@@ -93,7 +93,7 @@ fn step_of(first: u64, place: u64) -> u64 {
 }
 
 // The piece of the trace from a place on: who ran last, and 63 bytes at most.
-#[derive(Drop)]
+#[derive(Clone, Copy)]
 struct Piece {
     bytes: [u8; 64],
     len: usize,

@@ -4,7 +4,7 @@ use input::{read_on, turns_left};
 use typed::{Field, close, command_of, new_text, read_field};
 
 // How many lines there are, and whether each is a number.
-#[derive(Drop)]
+#[derive(Clone, Copy)]
 pub struct Counted {
     pub ok: bool,
     pub lines: u64,
@@ -24,7 +24,7 @@ fn count_line(c: Counted, f: Field) -> Counted {
 }
 
 // A field that is read, and the lines so far.
-#[derive(Drop)]
+#[derive(Clone, Copy)]
 struct Going {
     field: Field,
     counted: Counted,
@@ -72,7 +72,7 @@ pub fn count_commands(fd: i32) -> Counted {
 }
 
 // The commands that are still to be taken: a part of their text, and the place in it.
-#[derive(Drop)]
+#[derive(Clone, Copy)]
 pub struct Left {
     pub fd: i32,
     pub field: Field,

@@ -20,7 +20,7 @@ use table::Table;
 use typed::new_text;
 
 // A drive after a block: state, actuator, and whether more may come.
-#[derive(Drop)]
+#[derive(Clone, Copy)]
 struct Going {
     state: State,
     actuator: Actuator,
@@ -156,7 +156,7 @@ fn drive_once(
 }
 
 // A run of drives: state, actuator, the place behind the lines so far, and the number that refuses the next (0: none).
-#[derive(Drop)]
+#[derive(Clone, Copy)]
 struct Ride {
     state: State,
     actuator: Actuator,
@@ -253,7 +253,7 @@ fn ride_all(
 }
 
 // Where steps, masks and commands come from, and what is asked for.
-#[derive(Drop)]
+#[derive(Clone, Copy)]
 struct Sources {
     steps: i32,
     events: i32,

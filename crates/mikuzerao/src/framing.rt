@@ -9,7 +9,7 @@ use table::Table;
 use typed::{Windows, close_windows, new_windows, read_windows};
 
 // Whether there is a frame, and it.
-#[derive(Drop)]
+#[derive(Clone, Copy)]
 pub struct Framing {
     pub framed: bool,
     pub frame: Frame,
@@ -31,7 +31,7 @@ fn read_frame(fd: i32) -> Windows {
 }
 
 // The frame that a word names, or none; not ok after a line that says why not.
-#[derive(Drop)]
+#[derive(Clone, Copy)]
 pub struct Named {
     pub ok: bool,
     pub framing: Framing,

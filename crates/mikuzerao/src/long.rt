@@ -5,7 +5,7 @@ use input::{read_on, turns_left};
 
 // The field so far: its characters up to two, whether the first is a zero, whether one is no digit, whether a CR stands behind it that
 // may be the first half of its end, and whether it has ended.
-#[derive(Drop)]
+#[derive(Clone, Copy)]
 struct Run {
     count: u8,
     zero: bool,

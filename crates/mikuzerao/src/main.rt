@@ -1,4 +1,6 @@
 // Program mikuzerao: the desk's calls. The first word says what to do; what it answers is worked out below, in the proved crates.
+#![tactic(auto)]
+
 mod begin;
 mod clean;
 mod commands;

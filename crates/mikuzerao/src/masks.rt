@@ -4,7 +4,7 @@ ghost use Rattle.std.specs.Prelude.{◌≤◌, length};
 use input::fill;
 
 // How many masks came, and how many bytes of one that is not whole.
-#[derive(Drop)]
+#[derive(Clone, Copy)]
 pub struct Came {
     pub masks: usize,
     pub rest: usize,

@@ -12,7 +12,7 @@ pub const DRIVE: u8 = 2;
 
 // The words that name the files of events and of the frame (0: none), the domain that it is shown to, whether the state is asked for, the
 // actuator's numbers, and the next word.
-#[derive(Drop)]
+#[derive(Clone, Copy)]
 pub struct Options {
     pub ok: bool,
     pub next: usize,

@@ -13,7 +13,7 @@ use state::State;
 use table::Table;
 
 // Where steps and masks come from, -1 for no events; and whether the state is asked for.
-#[derive(Drop)]
+#[derive(Clone, Copy)]
 pub struct Sources {
     pub steps: i32,
     pub events: i32,
@@ -21,7 +21,7 @@ pub struct Sources {
 }
 
 // A run after a turn: its state, how many bytes are there of a step that is not whole, and whether more may come.
-#[derive(Drop)]
+#[derive(Clone, Copy)]
 struct Turn {
     state: State,
     have: usize,

@@ -10,7 +10,7 @@ use table::Table;
 use walk::Answer;
 
 // How steps are shown: in lines (to a domain or whole) or in bytes; and which threads the domain is shown.
-#[derive(Drop)]
+#[derive(Clone, Copy)]
 pub struct Look {
     pub bytes: bool,
     pub partial: bool,

@@ -5,7 +5,7 @@ use sentence::{explain_event, explain_other, explain_short};
 use table::Table;
 
 // What a step had when it was refused: bytes of the number that it wants, bytes of its mask, and the mask.
-#[derive(Drop)]
+#[derive(Clone, Copy)]
 pub struct Had {
     pub bytes: usize,
     pub rest: usize,

@@ -7,7 +7,7 @@ use input::fill;
 use reader::{Reading, Verdict, refused_reading};
 
 // What was read of a table's file, as much as a buffer holds.
-#[derive(Drop)]
+#[derive(Clone, Copy)]
 pub struct Loaded {
     pub ok: bool,
     pub fd: i32,

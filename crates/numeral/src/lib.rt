@@ -1,10 +1,12 @@
 // A number in groups of seven bits, lowest group first; never masks.
+#![tactic(auto)]
+
 ghost use Rattle.std.specs.Prelude.{◌≡◌, ◌<◌, drop};
 ghost use Rattle.numeral.specs.Number.{third, second, number_at};
 ghost use Rattle.numeral.specs.NumberRules.{Bytes};
 
 // A number and the place after it, or the refusal.
-#[derive(Drop)]
+#[derive(Clone, Copy)]
 pub enum Number {
     Value(u16, usize),
     Refused(u8),

@@ -1,4 +1,6 @@
 // Lines and sentences: a template in which each `#` stands for a number, filled in and put into a lent buffer.
+#![tactic(auto)]
+
 ghost use Rattle.std.specs.Prelude.{◌≡◌, ◌+◌, ◌<◌, leb, length, get_or};
 ghost use Rattle.writer.specs.Buffer.{Room, Put};
 ghost use Rattle.report.specs.Printing.{told, printing, printed};

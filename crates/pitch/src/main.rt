@@ -1,4 +1,6 @@
 // The pitch loop's story, step by step.
+#![tactic(auto)]
+
 mod story;
 mod text;
 

@@ -1,5 +1,7 @@
 // Random flow policies, some of them damaged, each mended by crate mend and by a second closing that squares. Prints how many of each kind
 // there were, and last how often the two disagreed.
+#![tactic(auto)]
+
 use dice::{any8, below, part, seldom};
 use mend::{Mended, Mending};
 use rival_mend::{Second, only};

@@ -1,4 +1,6 @@
 // Reading the bytes of a table: each number is judged as it is read.
+#![tactic(auto)]
+
 ghost use Rattle.std.specs.Prelude.{◌≡◌};
 ghost use Rattle.reader.specs.Reader.{reading, read_of};
 
@@ -13,7 +15,7 @@ use parts::{read_rest, read_rows};
 use steps::read_ranged;
 
 // Where a reader stands: the refusal met (0: none), the start of the last number, the start of the next, the last number.
-#[derive(Drop)]
+#[derive(Clone, Copy)]
 pub struct Cursor {
     pub refusal: u8,
     pub start: usize,
@@ -21,26 +23,26 @@ pub struct Cursor {
     pub value: u16,
 }
 
-#[derive(Drop)]
+#[derive(Clone, Copy)]
 pub struct RowsRead {
     pub cursor: Cursor,
     pub rows: [u16; 16],
 }
 
-#[derive(Drop)]
+#[derive(Clone, Copy)]
 pub struct FieldsRead {
     pub cursor: Cursor,
     pub fields: [u16; FIELDS],
 }
 
-#[derive(Drop)]
+#[derive(Clone, Copy)]
 pub struct ThreadsRead {
     pub cursor: Cursor,
     pub threads: [Thread; 32],
 }
 
 // Accepted, a refusal with its place, or refusal 7 with its place and the three domains.
-#[derive(Drop)]
+#[derive(Clone, Copy)]
 pub enum Verdict {
     Accepted,
     Refused(u8, usize),
@@ -48,7 +50,7 @@ pub enum Verdict {
 }
 
 // The table is all zero unless it was accepted.
-#[derive(Drop)]
+#[derive(Clone, Copy)]
 pub struct Reading {
     pub verdict: Verdict,
     pub table: Table,

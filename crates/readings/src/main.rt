@@ -1,5 +1,7 @@
 // The bytes of random tables, legal and damaged, read and written by the proved reader and writer, by the host's three calls, and
 // by crate rival_bytes. Prints how often each number came up, and last how often the two sides disagreed.
+#![tactic(auto)]
+
 use dice::{below, below32, part, seldom};
 use table::Table;
 use tally::{Tally, WRONG, count, line};

@@ -1,4 +1,6 @@
 // One input for each refusal number, with what the call answers: the number, the call, and the input in words.
+#![tactic(auto)]
+
 use actuator::Actuator;
 use cleaning::Report;
 use example::example;

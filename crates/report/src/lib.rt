@@ -1,4 +1,6 @@
 // The lines that program bench prints, each made whole in a lent buffer from a place that the caller names.
+#![tactic(auto)]
+
 ghost use Rattle.std.specs.Prelude.{◌≡◌, ◌+◌, ◌*◌, ◌≤◌, length};
 ghost use Rattle.writer.specs.Buffer.{Put};
 ghost use Rattle.report.specs.Lines.{threads_line, trace_lines, end_line, refused_line};
@@ -10,7 +12,7 @@ use decimal::put_number;
 use text::{lay, print_counted, put, put_line};
 
 // Printed up to before a place, or too little room.
-#[derive(Drop)]
+#[derive(Clone, Copy)]
 pub enum Printing {
     Printed(usize),
     NoRoom,

@@ -1,6 +1,8 @@
 // A second scheduler, written from documents 01 and 02 alone, for the first to be played against. It shares types with the first, and
 // neither a function nor a definition. It tells the time by when a thread was last released, takes a mask for a set of threads, and walks
 // over such a set.
+#![tactic(auto)]
+
 mod events;
 mod fit;
 mod frames;

@@ -5,7 +5,7 @@ use scheduler::{Answer, Progress, State};
 use table::Table;
 
 // How far the walk is: whether somebody was chosen, the answer so far, and the state so far.
-#[derive(Drop)]
+#[derive(Clone, Copy)]
 pub struct Turn {
     pub over: bool,
     pub answer: Answer,

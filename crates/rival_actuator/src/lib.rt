@@ -1,4 +1,6 @@
 // A second actuator, written apart, for the first to be played against: a height above -5,000 in thousandths of a degree that goes one thousandth at a time.
+#![tactic(auto)]
+
 use actuator::{Actuator, Driven};
 use same::{outcome_number, same_state};
 use scheduler::{Answer, Outcome, State};

@@ -1,4 +1,6 @@
 // A second admission, written from documents 01 and 02 alone: a plain search over every length.
+#![tactic(auto)]
+
 use table::{Table, Thread};
 
 fn product(a: u16, b: u16) -> u64 {
@@ -106,7 +108,7 @@ pub fn bound(t: Table, i: u8) -> u32 {
 
 // The first thread without a bound, 32 where the table is admitted and 33 where it is refused; all bounds where it is admitted,
 // else zeros; the lengths tried for each thread that was searched.
-#[derive(Drop)]
+#[derive(Clone, Copy)]
 pub struct Admitted {
     pub first: u8,
     pub bounds: [u16; 32],

@@ -1,7 +1,7 @@
 // The bytes cut into numbers.
 
 // A number and the place behind it, or a refusal.
-#[derive(Drop)]
+#[derive(Clone, Copy)]
 struct Number {
     refusal: u8,
     value: u16,
@@ -9,7 +9,7 @@ struct Number {
 }
 
 // The numbers from the first on, each with its place, up to one that is refused: its refusal and its place stand at the count.
-#[derive(Drop)]
+#[derive(Clone, Copy)]
 pub struct Pieces {
     pub values: [u16; 288],
     pub places: [usize; 288],

@@ -3,7 +3,7 @@ use std::num::{wrapping_add_usize, wrapping_sub_usize};
 use table::{Table, Thread};
 
 // Bytes, of which the first so many count; the others are zero.
-#[derive(Drop)]
+#[derive(Clone, Copy)]
 pub struct Page {
     pub bytes: [u8; 900],
     pub len: usize,

@@ -5,7 +5,7 @@ use rival_table::Gap;
 use table::{Table, Thread};
 
 // The refusal or 0, its place, the three domains of a 7, and the table; zero where there is none.
-#[derive(Drop)]
+#[derive(Clone, Copy)]
 pub struct Reading {
     pub refusal: u8,
     pub place: usize,

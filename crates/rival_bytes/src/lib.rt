@@ -1,5 +1,7 @@
 // A second reader and a second writer of the bytes of a table, written from documents 01 and 02 alone. The reader first cuts the bytes
 // into numbers, and then judges one number after the other. What a number of a table means serves crate rival_sheet too.
+#![tactic(auto)]
+
 mod cut;
 mod form;
 mod judge;

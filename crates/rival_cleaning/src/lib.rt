@@ -1,4 +1,6 @@
 // A second reading of Q-11, which shares no function with the first: each step looks back for itself for who ran last.
+#![tactic(auto)]
+
 use table::Table;
 
 // Whether the domain of thread a may flow to that of thread b.

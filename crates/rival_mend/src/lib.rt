@@ -1,8 +1,9 @@
 // A second reading of document 02 on mending a flow policy. It shares neither a function nor a definition with the first: a row is a
 // set, and the sets are squared, so that ways of 2, 4, 8 and then 16 legs are there.
+#![tactic(auto)]
 
 // The number (0 for none), the row at fault or how many pairs, the rows, and the pairs in the first places.
-#[derive(Drop)]
+#[derive(Clone, Copy)]
 pub struct Second {
     pub number: u8,
     pub value: u16,
@@ -62,7 +63,7 @@ fn first_bad(rows: [u16; 16], domains: u8) -> u8 {
     16
 }
 
-#[derive(Drop)]
+#[derive(Clone, Copy)]
 struct Found {
     n: u16,
     pairs: [u8; 256],

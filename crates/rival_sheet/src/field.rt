@@ -10,7 +10,7 @@ const ZERO: u8 = 48;
 
 // The field so far: its start, whether it has a character, whether each was a digit with no zero before it, what they are worth (65,536
 // for more), and whether a CR waits.
-#[derive(Drop)]
+#[derive(Clone, Copy)]
 pub struct Field {
     pub start: usize,
     pub some: bool,

@@ -7,7 +7,7 @@ use table::Table;
 pub type Chars = [u8; 2000];
 
 // Characters, of which the first so many count; the others are zero.
-#[derive(Drop)]
+#[derive(Clone, Copy)]
 pub struct Sheet {
     pub chars: Chars,
     pub len: usize,

@@ -1,6 +1,8 @@
 // A second reading of which tables are legal and which threads are marked, written from documents 01 and 02 alone. It shares types with
 // the first, and neither a function nor a definition. It keeps the relation as sets, sorts the threads by selection, and finds
 // the marks from the lowest thread up and whom they protect from the order.
+#![tactic(auto)]
+
 mod judge;
 mod rank;
 mod relation;

@@ -47,7 +47,7 @@ pub fn rows_are_good(rows: [u16; 16], domains: u8) -> bool {
 }
 
 // The first three domains with a flow from a to b and from b to c, and none from a to c; all of it zero where there are none.
-#[derive(Drop)]
+#[derive(Clone, Copy)]
 pub struct Gap {
     pub found: bool,
     pub a: u8,

@@ -1,5 +1,7 @@
 // The engine of a run with events, in a frame or without: of the whole steps that are there, those before the first that is refused, and
 // the number that refuses it.
+#![tactic(auto)]
+
 ghost use Rattle.std.specs.Prelude.{◌≡◌};
 ghost use Rattle.runs.specs.Playing.{mode_of, ran};
 
@@ -15,7 +17,7 @@ pub use judge::{refusal, whole_steps};
 use play::play;
 
 // After n steps: the state, and the number that refuses the next whole step, or the run itself (0: there is none).
-#[derive(Drop)]
+#[derive(Clone, Copy)]
 pub struct Played {
     pub state: State,
     pub why: u8,

@@ -10,7 +10,7 @@ use scheduler::mask_passes;
 use table::Table;
 
 // How many steps come before the first that is refused, and its number (0: none is).
-#[derive(Drop)]
+#[derive(Clone, Copy)]
 pub struct Halt {
     pub n: usize,
     pub why: u8,

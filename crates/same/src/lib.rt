@@ -1,4 +1,6 @@
 // Whether two values are the same, for the programs that compare: tables, states, and what a step gives as a number.
+#![tactic(auto)]
+
 use scheduler::{Answer, Outcome, Progress, State};
 use table::{Table, Thread};
 

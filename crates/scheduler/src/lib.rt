@@ -1,4 +1,6 @@
 // The scheduler: one step from every fitting state, in a frame or without, or the number that refuses it.
+#![tactic(auto)]
+
 ghost use Rattle.std.specs.Prelude.{◌≡◌, [], ◌<◌, ◌≤◌, eqb, ltb, not};
 ghost use Rattle.basis.specs.Tests.{and, or};
 ghost use Rattle.state.specs.Release.{has_event};
@@ -18,14 +20,14 @@ pub use walk::Answer;
 use walk::{Prepared, advance, narrow, prepare};
 
 // A step's answer, or the number of its refusal.
-#[derive(Drop)]
+#[derive(Clone, Copy)]
 pub enum Outcome {
     Chose(Answer),
     Refused(u8),
 }
 
 // On a refusal the state is the one that was handed in.
-#[derive(Drop)]
+#[derive(Clone, Copy)]
 pub struct Stepped {
     pub outcome: Outcome,
     pub state: State,

@@ -1,5 +1,7 @@
 // Refusals in words, for people: one sentence, ended by LF, that names the field, the thread or what is missing.
 // No sentence is longer than 200 bytes. What has no room in the lent buffer is left out.
+#![tactic(auto)]
+
 mod end;
 mod form;
 mod name;
@@ -21,7 +23,7 @@ pub use step::{
 // What stands where a table is refused: the index of the number (MOST: none is known), its value (0 where it is no number), whether the
 // fault is the end behind it, whether nothing is left of the input there, and the numbers before it. In the comma form also whether the
 // field is empty, and the first character in it that is no digit, where there is one.
-#[derive(Drop)]
+#[derive(Clone, Copy)]
 pub struct Cause {
     pub at: usize,
     pub value: u16,

@@ -5,7 +5,7 @@ use sheet::MOST;
 
 // One of the first three numbers (group 0), a domain's row (1) or a thread's field (2): which of them, or which field, and of which
 // domain or thread.
-#[derive(Drop)]
+#[derive(Clone, Copy)]
 pub struct Spot {
     pub group: u8,
     pub field: u8,

@@ -4,7 +4,7 @@ use sheet::{MOST, read_field};
 
 // Whether the place was met, the index and the start of the next number, its value at that place, whether its end is meant, and the
 // numbers before it.
-#[derive(Drop)]
+#[derive(Clone, Copy)]
 pub struct Search {
     pub done: bool,
     pub at: usize,

@@ -1,4 +1,6 @@
 // Tables in the comma form of the planning sheet: reading and writing them.
+#![tactic(auto)]
+
 ghost use Rattle.std.specs.Prelude.{◌≡◌};
 ghost use Rattle.reader.specs.Reader.{read_of};
 ghost use Rattle.writer.specs.Writer.{told};
@@ -26,7 +28,7 @@ pub const MOST: usize = 275;
 
 // A text that is being cut into numbers: the fault met (0: none), the place of the last field that was none or of the last number's end,
 // whether it is such an end, the start of the next field, and the numbers so far.
-#[derive(Drop)]
+#[derive(Clone, Copy)]
 pub struct Cutting {
     pub refusal: u8,
     pub place: usize,

@@ -1,5 +1,7 @@
 // The texts of random tables, legal and damaged, read and written by the proved reader and writer of the comma form and by crate
 // rival_sheet. Prints how often each number came up, and last how often the two sides disagreed.
+#![tactic(auto)]
+
 mod damage;
 mod read;
 mod write;

@@ -1,4 +1,6 @@
 // What a domain is shown of an answer and of a state.
+#![tactic(auto)]
+
 ghost use Rattle.std.specs.Prelude.{◌≡◌, replicate};
 ghost use Rattle.state.specs.State.{no_progress};
 ghost use Rattle.sight.specs.Shown.{showing, told, showing_state, told_state, threads_shown};
@@ -12,7 +14,7 @@ mod views;
 use views::seen_threads;
 
 // What a domain is shown of an answer.
-#[derive(Drop)]
+#[derive(Clone, Copy)]
 pub enum View {
     Thread(u8),
     Gap,
@@ -20,7 +22,7 @@ pub enum View {
     NoDomain,
 }
 
-#[derive(Drop)]
+#[derive(Clone, Copy)]
 pub enum Showing {
     Done,
     NotLegal,
@@ -29,7 +31,7 @@ pub enum Showing {
 }
 
 // What a domain is shown of a state: zeros for what it may not see, and on a refusal.
-#[derive(Drop)]
+#[derive(Clone, Copy)]
 pub struct ShownState {
     pub answer: Showing,
     pub threads: [Progress; 32],

@@ -1,4 +1,6 @@
 // Tables, states and bytes with one thing wrong, mostly.
+#![tactic(auto)]
+
 mod pages;
 mod tables;
 

@@ -1,4 +1,6 @@
 // The state by value: its methods, its release, and the test that it fits its table.
+#![tactic(auto)]
+
 ghost use Rattle.std.specs.Prelude.{◌≡◌};
 ghost use Rattle.state.specs.State.{told, starting, fresh_given};
 
@@ -15,7 +17,7 @@ pub use release::has_event;
 
 // The rest of a thread's budget, its rest of execution, its finish mark, its count of steps run, and an event thread's steps since
 // its release.
-#[derive(Drop)]
+#[derive(Clone, Copy)]
 pub struct Progress {
     pub rest: u16,
     pub execution: u16,
@@ -25,20 +27,20 @@ pub struct Progress {
 }
 
 // Steps done, and the progress of each thread.
-#[derive(Drop)]
+#[derive(Clone, Copy)]
 pub struct State {
     pub clock: u32,
     pub threads: [Progress; 32],
 }
 
-#[derive(Drop)]
+#[derive(Clone, Copy)]
 pub enum Starting {
     Done,
     NotLegal,
 }
 
 // The state is all zero on a refusal.
-#[derive(Drop)]
+#[derive(Clone, Copy)]
 pub struct Started {
     pub answer: Starting,
     pub state: State,

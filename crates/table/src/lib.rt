@@ -1,4 +1,6 @@
 // The table of threads: up to 16 domains with a flow relation, up to 32 threads; which tables are legal, and the leak marks.
+#![tactic(auto)]
+
 ghost use Rattle.std.specs.Prelude.{◌≡◌};
 ghost use Rattle.table.specs.Legal.{legal as is_legal};
 ghost use Rattle.table.specs.Mark.{told, marking, marks_given};
@@ -14,7 +16,7 @@ pub use ranges::{field_range, fields, fields_in, in_range, make_thread, no_threa
 // How many fields a thread has.
 pub const FIELDS: usize = 8;
 
-#[derive(Drop)]
+#[derive(Clone, Copy)]
 pub struct Thread {
     pub domain: u8,
     pub priority: u8,
@@ -27,7 +29,7 @@ pub struct Thread {
     pub kind: u8,
 }
 
-#[derive(Drop)]
+#[derive(Clone, Copy)]
 pub struct Table {
     pub version: u8,
     pub domains: u8,
@@ -37,26 +39,26 @@ pub struct Table {
 }
 
 // From low up to below a limit.
-#[derive(Drop)]
+#[derive(Clone, Copy)]
 pub struct Range {
     pub low: u16,
     pub below: u32,
 }
 
 // A leak mark: whether it is set, and the first thread that it protects, 0 where it is not.
-#[derive(Drop)]
+#[derive(Clone, Copy)]
 pub struct Mark {
     pub set: bool,
     pub thread: u8,
 }
 
-#[derive(Drop)]
+#[derive(Clone, Copy)]
 pub enum Marking {
     Done,
     NotLegal,
 }
 
-#[derive(Drop)]
+#[derive(Clone, Copy)]
 pub struct Marked {
     pub answer: Marking,
     pub marks: [Mark; 32],

@@ -1,4 +1,6 @@
 // What a program compares, counted by kind and printed.
+#![tactic(auto)]
+
 pub type Tally = [u32; 64];
 
 // The kind of all that two sides did not agree on.

@@ -1,5 +1,7 @@
 // Random traces of random tables, some with a byte that names no thread: the cleanings of each are listed, and found a second time by looking
 // back from each step. Prints how many of each kind there were, and last how often the two disagreed.
+#![tactic(auto)]
+
 use cleaning::{Cleaning, Report};
 use dice::{any8, below, below8, part, seldom};
 use listed::Listed;

@@ -2,7 +2,7 @@
 use admission::{Admitting, Bound, IdleMost, ProhibitionTime, WorstCount};
 use table::Table;
 
-#[derive(Drop)]
+#[derive(Clone, Copy)]
 pub struct Tally {
     pub admitted: u32,
     pub without: u32,

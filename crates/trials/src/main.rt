@@ -1,5 +1,7 @@
 // Random tables through admission, held against the plain search of crate rival_bounds over every length. Prints how many of each
 // kind there were, and last how often the two disagreed.
+#![tactic(auto)]
+
 mod busy;
 mod count;
 

@@ -1,4 +1,6 @@
 // What a person types: decimal fields between commas and ends of lines, read a character at a time, so that no text has to fit into memory.
+#![tactic(auto)]
+
 use frame::Frame;
 
 mod characters;
@@ -14,7 +16,7 @@ pub use row_line::{close_rows, feed_rows, new_rows, read_rows};
 // A field so far: the places of its first character and of the next one, how many characters it has (2 for more than one), its first
 // character, the value of its digits, whether one is no part of a number, whether a CR stands last that may end the line, and what
 // ended it (0 nothing yet, 1 a comma, 2 a line's end).
-#[derive(Drop)]
+#[derive(Clone, Copy)]
 pub struct Field {
     pub start: u64,
     pub at: u64,
@@ -27,21 +29,21 @@ pub struct Field {
 }
 
 // A field after a part of a text, and the place in that part behind its last character read.
-#[derive(Drop)]
+#[derive(Clone, Copy)]
 pub struct Reading {
     pub field: Field,
     pub next: usize,
 }
 
 // A word as a number.
-#[derive(Drop)]
+#[derive(Clone, Copy)]
 pub enum Argument {
     Number(u64),
     NoNumber,
 }
 
 // A number with a sign, from -1,000,000 to 1,000,000; 0 where it is none.
-#[derive(Drop)]
+#[derive(Clone, Copy)]
 pub struct Signed {
     pub number: bool,
     pub value: i32,
@@ -49,7 +51,7 @@ pub struct Signed {
 
 // A line of rows so far: its values (17 counts for more than 16), the place of each, whether the line is over, and the first fault (0 none)
 // with its place.
-#[derive(Drop)]
+#[derive(Clone, Copy)]
 pub struct Rows {
     pub field: Field,
     pub count: u8,
@@ -62,7 +64,7 @@ pub struct Rows {
 
 // The lines of a frame so far: the domain of a line that is half read, whether some line is not two numbers, and the windows (65 counts
 // for more than 64).
-#[derive(Drop)]
+#[derive(Clone, Copy)]
 pub struct Windows {
     pub field: Field,
     pub domain: u8,

@@ -1,4 +1,6 @@
 // The walk, and one step of a table that is known to be legal: prepared once, and then advanced.
+#![tactic(auto)]
+
 ghost use Rattle.std.specs.Prelude.{◌≡◌, ◌<◌, ◌≤◌, length};
 ghost use Rattle.table.specs.Mark.{marks_of};
 ghost use Rattle.state.specs.State.{last_clock, Fits};
@@ -16,7 +18,7 @@ mod visits;
 use visits::walk;
 
 // What a step chose: a thread that ran, a thread on whose account the processor idled, or nobody.
-#[derive(Drop)]
+#[derive(Clone, Copy)]
 pub enum Answer {
     Ran(u8),
     IdleFor(u8),
@@ -24,14 +26,14 @@ pub enum Answer {
 }
 
 // What a walk gives: its answer, and the state behind it.
-#[derive(Drop)]
+#[derive(Clone, Copy)]
 pub struct Walked {
     pub answer: Answer,
     pub state: State,
 }
 
 // What a table's steps need and share: the order of the walk and the leak marks.
-#[derive(Drop)]
+#[derive(Clone, Copy)]
 pub struct Prepared {
     pub order: Ranks,
     pub marks: [Mark; 32],

@@ -1,4 +1,6 @@
 // Writing a table into a lent buffer, from a place that the caller names.
+#![tactic(auto)]
+
 ghost use Rattle.std.specs.Prelude.{◌≡◌};
 ghost use Rattle.writer.specs.Writer.{told, writing, written};
 
@@ -12,7 +14,7 @@ pub use put::write_numbers;
 use size::table_size;
 
 // Written up to before a place, or the refusal.
-#[derive(Drop)]
+#[derive(Clone, Copy)]
 pub enum Writing {
     Written(usize),
     NotLegal,

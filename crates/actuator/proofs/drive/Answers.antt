@@ -1,0 +1,21 @@
+-- `actuator::drive` meets its contract: the step without a frame, and what follows it.
+use mathlib.Core.Path.{◌∙◌, ap}
+use lib.IntN.{ℤ}
+use mir.Syntax.{w64}
+use mir.ValLaws.{to_z-of_z}
+use Rattle.scheduler.specs.Taken.{Taken, taken_of}
+use Rattle.actuator.specs.Drive.{follows, driven}
+use Rattle.actuator.proofs.DriveLaws.{numbers_of}
+use borrow.Author.Rules.{rules}
+use Rattle.actuator.proofs.drive.Goals as goal
+
+pub follow-requires : goal.follow-requires
+follow-requires c = numbers_of _ _ _ _ c.step-r.result.outcome (ap (λ (x : Taken). x.told) c.step-r.ensures)
+
+pub returns : goal.returns
+unfolding driven
+returns c =
+    
+    c.follow.ensures
+    ∙ ap (λ (z : ℤ). follows c.args.t z c.args.s c.args.a (taken_of c.step-r.result)) (to_z-of_z w64 c.args.command c.ranges.command)
+    ∙ ap (follows c.args.t c.args.command c.args.s c.args.a) c.step-r.ensures

@@ -1,0 +1,21 @@
+-- `actuator::drive_in_frame` meets its contract: the step in the frame, and what follows it.
+use mathlib.Core.Path.{◌∙◌, ap}
+use lib.IntN.{ℤ}
+use mir.Syntax.{w64}
+use mir.ValLaws.{to_z-of_z}
+use Rattle.scheduler.specs.Taken.{Taken, taken_of}
+use Rattle.actuator.specs.Drive.{follows, driven}
+use Rattle.actuator.proofs.DriveLaws.{numbers_of}
+use borrow.Author.Rules.{rules}
+use Rattle.actuator.proofs.drive_in_frame.Goals as goal
+
+pub follow-requires : goal.follow-requires
+follow-requires c = numbers_of _ _ _ _ c.step_in_frame-r.result.outcome (ap (λ (x : Taken). x.told) c.step_in_frame-r.ensures)
+
+pub returns : goal.returns
+unfolding driven
+returns c =
+    
+    c.follow.ensures
+    ∙ ap (λ (z : ℤ). follows c.args.t z c.args.s c.args.a (taken_of c.step_in_frame-r.result)) (to_z-of_z w64 c.args.command c.ranges.command)
+    ∙ ap (follows c.args.t c.args.command c.args.s c.args.a) c.step_in_frame-r.ensures

@@ -1,0 +1,58 @@
+-- The bounds meet their contract. The loop's invariant: every thread before i has a bound, and these and the counts stand in the arrays.
+use Prim.Native.Nat.{suc, ◌+◌, ◌-◌, ◌≤◌}
+use mathlib.Core.Path.{◌≡◌, sym, ◌∙◌, ap}
+use mathlib.Core.List.{◌++◌}
+use native.Mathlib.Nat.{le_antisymm}
+use native.Mathlib.Numerals.{add-one}
+use native.Mathlib.Omega.{arith}
+use lib.ListN.{replicate}
+use Rattle.basis.specs.Search.{nothing, found, first, listed}
+use Rattle.basis.proofs.SearchLaws.{first-none, first_next, first_hit, first_end, listed-none, listed_next}
+use Rattle.admission.specs.Bounded.{bound, sought}
+use Rattle.admission.specs.Admit.{without_bound, first_without, bound_number, bounds_of, counts_of}
+use Rattle.admission.specs.Tried.{tried as the-tried}
+use Rattle.admission.proofs.AdmitLaws.{has_one, has_none, number_is, searched-all, searched_with}
+use borrow.Author.Rules.{rules}
+use Rattle.admission.proofs.bounds.admit_legal.Goals as goal
+
+pub loop-i-init : goal.loop-i-init
+loop-i-init c = (search rules, first-none _, listed-none _ 0 32, listed-none _ 0 32)
+
+pub find_bound-search-requires : goal.find_bound-search-requires
+find_bound-search-requires c = (c.requires, omega arith)
+
+pub returns-in_default : goal.returns-in_default
+unfolding first_without counts_of
+returns-in_default c =
+    
+    let l = c.loop-i in
+    let f = c.find_bound-search.ensures in
+    let b : bound c.args.t l.i ≡ nothing = sym f.0 ∙ ap sought c.in_default.is in
+    let e : first_without c.args.t ≡ found l.i
+    = first_hit (without_bound c.args.t) l.i c.args.t.count l.i l.invariant.1 (has_none c.args.t l.i b) c.loop-i-test.true in
+    let n = searched_with c.args.t l.i e in
+    (rw e, rw e, rw (n, l.invariant.3, f.1) (rw (add-one l.i) at (listed_next (the-tried c.args.t) 0 l.i 32 (omega arith))))
+
+pub loop-i-preserved : goal.loop-i-preserved
+loop-i-preserved c =
+    
+    let l = c.loop-i in
+    let f = c.find_bound-search.ensures in
+    let b : bound c.args.t l.i ≡ found c.in-At.x
+    = sym f.0 ∙ ap sought c.in-At.is in (
+      search rules,
+      first_next (without_bound c.args.t) l.i l.invariant.1 (has_one c.args.t l.i _ b),
+      rw (l.invariant.2, number_is c.args.t l.i _ b) (listed_next (bound_number c.args.t) 0 l.i 32 (omega arith)),
+      rw (l.invariant.3, f.1) (listed_next (the-tried c.args.t) 0 l.i 32 (omega arith)),
+    )
+
+pub returns : goal.returns
+unfolding first_without bounds_of counts_of
+returns c =
+    
+    let l = c.loop-i in
+    let e : first_without c.args.t ≡ nothing
+    = first_end (without_bound c.args.t) l.i c.args.t.count l.invariant.1 l.invariant.0 c.loop-i-test.false in
+    let q = le_antisymm l.invariant.0 c.loop-i-test.false in
+    let n = searched-all c.args.t e in
+    (rw e, rw e (rw q at l.invariant.2), rw n (rw q at l.invariant.3))

@@ -1,0 +1,65 @@
+-- The search meets its contract. The loop's invariant: what was tried and what is left from x on are together the count, each length tried
+-- was a step further at least, no length from the budget up to x holds its demand, and deadline and period are in their ranges.
+use Prim.Native.Nat.{ℕ, suc, ◌+◌, ◌-◌, ◌≤◌, ◌<◌}
+use mathlib.Core.Path.{◌≡◌, sym, ap}
+use native.Mathlib.Nat.{sub-zero, zero-add}
+use native.Mathlib.Omega.{arith}
+use lib.ListN.{length}
+use Rattle.table.specs.Threads.{thread}
+use Rattle.table.specs.Legal.{LegalThread}
+use Rattle.admission.specs.Demand.{demand}
+use Rattle.admission.specs.Tried.{most_tried, lengths_from, lengths, tried as the-tried}
+use Rattle.admission.proofs.BoundLaws.{Short, short-first, short-next, bound_at, bound-none}
+use Rattle.admission.proofs.TriedLaws.{left-none, left-last, left-next}
+use borrow.Author.Rules.{rules}
+use Rattle.admission.proofs.bounds.find_bound.Goals as goal
+
+-- What is legal of the thread.
+own : (s : tie.Start invariant-loop decreases-loop) → LegalThread s.args.t1.version s.args.t1.domains (thread s.args.t1 s.args.i)
+own s = s.requires.0.threads s.args.i s.requires.1
+
+pub loop-x-init : goal.loop-x-init
+unfolding the-tried lengths most_tried
+loop-x-init c =
+    (rw (sub-zero, zero-add), omega arith, short-first _ _, (own (goal.at.loop-x-init c).Start).deadline_high, (own (goal.at.loop-x-init c).Start).period_high)
+
+pub demand-next-requires : goal.demand-next-requires
+demand-next-requires c = (c.requires.0, c.requires.1, search rules)
+
+pub returns-then-next-x : goal.returns-then-next-x
+returns-then-next-x c =
+    
+    let l = c.loop-x in
+    let t = c.args.t in
+    let i = c.args.i in
+    let m : ℕ = (thread t i).deadline - (thread t i).budget + 1 - l.tried in
+    let d : demand t i l.x ≤ l.x = omega (arith, c.demand-next.ensures) in (
+      sym (bound_at t i l.x (record { from_budget = omega arith; to_deadline = omega arith; holds = d; smallest = l.invariant.2 })),
+      omega (arith, l.invariant.0, left-last t i m (m - 1) l.x (omega arith) (omega arith) d),
+    )
+
+pub loop-x-preserved : goal.loop-x-preserved
+loop-x-preserved c =
+    
+    let l = c.loop-x in
+    let t = c.args.t in
+    let i = c.args.i in
+    let n : ℕ = (thread t i).deadline - (thread t i).budget + 1 - (l.tried + 1) in
+    let d : l.x < demand t i l.x = omega (arith, c.demand-next.ensures) in
+    let e = left-next t i ((thread t i).deadline - (thread t i).budget + 1 - l.tried) n l.x (omega arith) (omega arith) d in (
+      rw c.demand-next.ensures (omega (arith, l.invariant.0, e)),
+      omega arith,
+      rw c.demand-next.ensures (short-next t i c.requires.0 l.x l.invariant.2),
+      l.invariant.3,
+      l.invariant.4,
+    )
+
+pub returns : goal.returns
+returns c =
+    
+    let l = c.loop-x in
+    let t = c.args.t in
+    let i = c.args.i in (
+      sym (bound-none t i (record { short = λ y a b. l.invariant.2 y a (omega arith) })),
+      omega (arith, l.invariant.0, left-none t i ((thread t i).deadline - (thread t i).budget + 1 - l.tried) l.x c.loop-x-test.false),
+    )

@@ -1,0 +1,13 @@
+use Rattle.admission.specs.Demand.{sum, share, demand}
+use Rattle.admission.proofs.SumLaws.{sum-next}
+use Rattle.admission.proofs.DemandLaws.{demand_partial}
+use Rattle.table.specs.Threads.{thread}
+use native.Mathlib.Nat.{le_antisymm}
+use native.Mathlib.Omega.{arith}
+use mathlib.Core.Path.{◌≡◌}
+use Prim.Native.Nat.{ℕ, ◌+◌, ◌-◌, ◌≤◌}
+use borrow.Author.Rules.{rules}
+use Rattle.admission.proofs.demand.demand.Given as goal
+
+abbrev pub invariant-loop-h : goal.invariant-loop-h
+invariant-loop-h l = (l.h ≤ l.h-end) × (l.sum ≡ (thread l.t l.i).budget + sum l.h (λ k. share (thread l.t l.i) l.x (thread l.t k)))

@@ -1,0 +1,19 @@
+use Rattle.admission.proofs.DemandLaws.{share-above, share_other}
+use Rattle.admission.proofs.QuotientLaws.{product_fits}
+use native.Mathlib.Omega.{arith}
+use mathlib.Core.Path.{sym}
+use borrow.Author.Rules.{rules}
+use Rattle.admission.proofs.demand.share.Goals as goal
+
+pub returns-then-h-own : goal.returns-then-h-own
+returns-then-h-own c =
+    let a = c.args in
+    sym (share_other a.own a.h a.x (omega arith))
+
+pub overflow_mul-result : goal.overflow_mul-result
+overflow_mul-result c = record { fits = rw c.rounded_up.ensures (product_fits _ _ _ (omega arith) (omega arith) (omega arith)) }
+
+pub returns : goal.returns
+returns c =
+    let a = c.args in
+    rw c.rounded_up.ensures (sym (share-above a.own a.h a.x (omega arith)))

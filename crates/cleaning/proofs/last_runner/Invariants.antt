@@ -1,0 +1,14 @@
+-- Who last ran in what is left is who last ran in the whole.
+use mathlib.Core.Path.{◌≡◌, refl, sym, ◌∙◌, ap}
+use Prim.Native.Nat.{ℕ, ◌+◌, ◌-◌}
+use lib.ListN.{length, drop}
+use borrow.Author.Rules.{rules}
+use Rattle.cleaning.specs.Cleanings.{nobody, last_run}
+use Rattle.cleaning.proofs.ScanLaws.{last-at, last_at_end}
+use Rattle.cleaning.proofs.last_runner.Given as goal
+
+abbrev pub invariant-loop-i : goal.invariant-loop-i
+invariant-loop-i l = last_run l.t l.a (drop l.i l.trace) ≡ last_run l.t nobody l.trace
+
+abbrev pub decreases-loop-i : goal.decreases-loop-i
+decreases-loop-i l = length l.trace - l.i

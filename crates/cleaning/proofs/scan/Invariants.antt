@@ -1,0 +1,16 @@
+-- `cleaning::scan` meets its contract: what is left of the trace has the same first cleaning.
+use mathlib.Core.Path.{◌≡◌, refl, sym, ◌∙◌, ap}
+use Prim.Native.Nat.{ℕ, ◌+◌, ◌-◌}
+use lib.ListN.{length, drop}
+use borrow.Author.Rules.{rules}
+use Rattle.cleaning.specs.Cleanings.{cleaned}
+use Rattle.cleaning.specs.Scan.{first, barred}
+use Rattle.cleaning.specs.declared.Cleaning.{Cleaning}
+use Rattle.cleaning.proofs.ScanLaws.{at-due, at_none, at_end}
+use Rattle.cleaning.proofs.scan.Given as goal
+
+abbrev pub invariant-loop-i : goal.invariant-loop-i
+invariant-loop-i l = first (cleaned (barred l.n l.w) l.n l.i l.a (drop l.i l.trace)) ≡ first (cleaned (barred l.n l.w) l.n l.from l.last (drop l.from l.trace))
+
+abbrev pub decreases-loop-i : goal.decreases-loop-i
+decreases-loop-i l = length l.trace - l.i

@@ -1,0 +1,57 @@
+-- `cleaning::tally` meets its contract: what is counted and what is left are all, and the answer for the rest of the bytes is the answer for all of them.
+use mathlib.Core.Path.{◌≡◌, refl, sym, ◌∙◌, ap}
+use mathlib.Core.Bool.{Bool, true, false}
+use mathlib.Core.Logic.{⊎_elim}
+use native.Mathlib.Omega.{arith}
+use Prim.Native.Nat.{ℕ, ◌+◌, ◌-◌, ◌≤◌}
+use lib.ListN.{length, get_or, drop}
+use borrow.Author.Rules.{rules}
+use borrow.Author.Tests.{not-true, not-false}
+use Rattle.basis.specs.Tests.{pick}
+use Rattle.cleaning.specs.Cleanings.{cleaned, known, all_known}
+use Rattle.cleaning.specs.Scan.{barred, scanned, tallied}
+use Rattle.cleaning.specs.declared.Report.TheVariants.{Cleaned}
+use Rattle.cleaning.proofs.ScanLaws.{at-due, at_none, at_end, at-known, known_end}
+use Rattle.cleaning.proofs.tally.Goals as goal
+
+pub loop-i-init : goal.loop-i-init
+unfolding scanned
+loop-i-init c = (omega arith, omega arith, refl)
+
+pub returns-then-not-is_known : goal.returns-then-not-is_known
+unfolding tallied pick
+returns-then-not-is_known c =
+    
+    
+    let unknown : known c.args.n (get_or c.args.trace.now c.loop-i.i 0) ≡ false = sym c.is_Known.ensures ∙ c.if-not-is_known.true in
+    let refused : all_known c.args.n c.args.trace.now ≡ false
+    = sym c.loop-i.invariant.2 ∙ rw unknown at (at-known c.args.n c.args.trace.now c.loop-i.i c.loop-i-test.true) in
+    rw refused
+
+pub loop-i-preserved : goal.loop-i-preserved
+loop-i-preserved c =
+    
+    
+    let n = c.args.n in
+    let tr = c.args.trace.now in
+    let must : ℕ → ℕ → Bool = barred n c.args.w.now in
+    let within = c.loop-i-test.true in
+    let said = c.must_clean.ensures in
+    let named : known n (get_or tr c.loop-i.i 0) ≡ true = sym c.is_Known.ensures ∙ c.if-not-is_known.false in
+    let rest : ℕ → ℕ = λ a. length (cleaned must n (c.loop-i.i + 1) a (drop (c.loop-i.i + 1) tr)) in (
+      ⊎_elim (λ w. omega arith) (λ w. omega arith) c.if-must_clean.branch,
+      ⊎_elim
+          (λ w. omega (arith, ap rest c.latest_of-a.ensures, c.loop-i.invariant.1, ap length (at-due must n tr c.loop-i.i c.loop-i.a within (sym said ∙ w.0.taken))))
+          (λ w. omega (arith, ap rest c.latest_of-a.ensures, c.loop-i.invariant.1, ap length (at_none must n tr c.loop-i.i c.loop-i.a within (sym said ∙ w.0.left))))
+          c.if-must_clean.branch,
+      sym (rw named at (at-known n tr c.loop-i.i within)) ∙ c.loop-i.invariant.2,
+    )
+
+pub returns : goal.returns
+unfolding tallied pick
+returns c =
+    
+    
+    let done = at_end (barred c.args.n c.args.w.now) c.args.n c.args.trace.now c.loop-i.i c.loop-i.a c.loop-i-test.false in
+    let named : all_known c.args.n c.args.trace.now ≡ true = sym c.loop-i.invariant.2 ∙ known_end c.args.n c.args.trace.now c.loop-i.i c.loop-i-test.false in
+    rw named (ap Cleaned (omega (arith, rw done at c.loop-i.invariant.1)))

@@ -1,0 +1,41 @@
+-- The digits before k are still to come: putting them would end in the whole number.
+use Prim.Native.Nat.{ℕ, ◌-◌, ◌/◌, ◌≤◌}
+use mathlib.Core.Path.{◌≡◌, refl, ◌∙◌, ap}
+use native.Mathlib.Omega.{arith}
+use lib.ListN.{length, set, length-set}
+use lib.Seq.{sets}
+use Rattle.decimal.proofs.DecimalLaws.{last_digits, digit-put, digits_end}
+use borrow.Author.Rules.{rules}
+use Rattle.decimal.proofs.put_number.Goals as goal
+
+pub overflow_add-end : goal.overflow_add-end
+overflow_add-end c = omega (arith, c.requires.fits, c.places.ensures)
+
+pub loop-k-init : goal.loop-k-init
+loop-k-init c = (omega arith, omega arith, refl, refl)
+
+pub bounds-buf-k : goal.bounds-buf-k
+bounds-buf-k c =
+    
+    let i = c.loop-k.invariant in
+    omega (arith, i.1, i.2, c.requires.fits, c.places.ensures, c.loop-k-test.true)
+
+pub loop-k-preserved : goal.loop-k-preserved
+loop-k-preserved c =
+    
+    let l = c.loop-k in (
+      omega arith,
+      omega (arith, l.invariant.1),
+      length-set l.buf (l.k - 1) c.last_digit.result ∙ l.invariant.2,
+      ap (λ (d : ℕ). sets (set l.buf (l.k - 1) d) c.args.at (last_digits (l.k - 1 - c.args.at) (l.rest / 10))) c.last_digit.ensures
+          ∙ digit-put l.buf c.args.at l.k l.rest c.loop-k-test.true ∙ l.invariant.3,
+    )
+
+pub returns : goal.returns
+returns c =
+    
+    let l = c.loop-k in
+    record {
+      end = omega (arith, c.places.ensures);
+      holds = digits_end c.args.buf.now l.buf c.args.at l.k _ l.rest c.args.n c.loop-k-test.false (omega (arith, c.places.ensures)) l.invariant.3;
+    }

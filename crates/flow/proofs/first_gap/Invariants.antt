@@ -1,0 +1,30 @@
+-- `flow::first_gap` meets its contract: each of the three loops has found nothing so far in its own search, `gap_by_c`, `gap_by_b` and `first_gap`.
+use Rattle.basis.specs.Search.{nothing, first}
+use Rattle.basis.proofs.SearchLaws.{first-none, first_next, first_hit, first_end}
+use Rattle.flow.proofs.GapLaws.{gap_at-none, gap_at_hit, whole_by_c}
+use Rattle.flow.specs.Gap.{gap_at, gap_by_c, gap_by_b, first_gap, gap_told, told}
+use Rattle.flow.specs.declared.Gap.TheVariants.{None}
+use mathlib.Core.Logic.{⊎_elim}
+use borrow.Author.Tests.{not-false}
+use native.Mathlib.Omega.{arith}
+use mathlib.Core.Path.{◌≡◌, refl, sym, ◌∙◌, ap}
+use Prim.Native.Nat.{◌≤◌, ◌-◌}
+use Rattle.flow.proofs.first_gap.Given as goal
+
+abbrev pub invariant-loop-c : goal.invariant-loop-c
+invariant-loop-c l = (l.c ≤ l.domains) × (l.found ≡ None) × (first l.c (gap_at l.rows l.a l.b) ≡ nothing)
+
+abbrev pub decreases-loop-c : goal.decreases-loop-c
+decreases-loop-c l = l.domains - l.c
+
+abbrev pub invariant-loop-b : goal.invariant-loop-b
+invariant-loop-b l = (l.b ≤ l.domains) × (l.found ≡ None) × (first l.b (gap_by_c l.rows l.domains l.a) ≡ nothing)
+
+abbrev pub decreases-loop-b : goal.decreases-loop-b
+decreases-loop-b l = l.domains - l.b
+
+abbrev pub invariant-search : goal.invariant-search
+invariant-search l = (l.a ≤ l.domains) × (l.found ≡ None) × (first l.a (gap_by_b l.rows l.domains) ≡ nothing)
+
+abbrev pub decreases-search : goal.decreases-search
+decreases-search l = l.domains - l.a

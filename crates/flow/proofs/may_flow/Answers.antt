@@ -1,0 +1,7 @@
+use Rattle.flow.specs.Flow.{flows}
+use borrow.Author.Rules.{rules}
+use Rattle.flow.proofs.may_flow.Goals as goal
+
+pub returns : goal.returns
+unfolding flows
+returns c = rw (c.bit.ensures, c.row.ensures)

@@ -1,0 +1,12 @@
+use Rattle.frame.specs.Frame.{window, window_ok}
+use Rattle.basis.proofs.TestLaws.{every-none, every-next, every_fails, every_end}
+use Rattle.basis.specs.Tests.{every}
+use borrow.Author.Tests.{not-true, not-false}
+use mathlib.Core.Bool.{true}
+use mathlib.Core.Path.{◌≡◌, sym, ◌∙◌}
+use Prim.Native.Nat.{◌≤◌, ◌-◌}
+use borrow.Author.Rules.{rules}
+use Rattle.frame.proofs.windows_pass.Given as goal
+
+abbrev pub invariant-loop-k : goal.invariant-loop-k
+invariant-loop-k l = (l.k ≤ l.k-end) × (every l.k (λ j. window_ok l.domains (window l.f j)) ≡ true)

@@ -1,0 +1,11 @@
+-- The first b targets are joined.
+use Rattle.mend.specs.Grid.{joined, widened}
+use native.Mathlib.Numerals.{add-one}
+use native.Mathlib.Nat.{le_antisymm}
+use mathlib.Core.Path.{◌≡◌}
+use Prim.Native.Nat.{◌≤◌, ◌-◌}
+use borrow.Author.Rules.{rules}
+use Rattle.mend.proofs.grid.widen.Given as goal
+
+abbrev pub invariant-loop-b : goal.invariant-loop-b
+invariant-loop-b l = (l.b ≤ l.domains) × (l.grid ≡ widened l.k l.a l.b l.initial.grid)

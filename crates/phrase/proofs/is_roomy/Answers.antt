@@ -1,0 +1,30 @@
+-- What is left of the room is the room less what the characters before i take.
+use Prim.Native.Nat.{◌-◌, ◌≤◌}
+use mathlib.Core.Path.{refl, sym}
+use native.Mathlib.Omega.{arith}
+use lib.ListN.{get_or}
+use borrow.Author.Tests.{le-leb, lt-leb}
+use Rattle.phrase.proofs.PhraseLaws.{used_small, Leaving, leaving_goes, leaving_short, leaving_ends}
+use borrow.Author.Rules.{rules}
+use Rattle.phrase.proofs.is_roomy.Goals as goal
+
+pub loop-i-init : goal.loop-i-init
+loop-i-init c = (omega arith, omega arith, record { sum = refl })
+
+pub returns-then-left-size : goal.returns-then-left-size
+returns-then-left-size c =
+    
+    let l = c.loop-i in
+    sym (lt-leb _ _ (leaving_short _ _ l.invariant.2 c.loop-i-test.true c.number_at-n.ensures c.piece_size-size.ensures c.if-left-size.true))
+
+pub loop-i-preserved : goal.loop-i-preserved
+loop-i-preserved c =
+    
+    let l = c.loop-i in (
+      omega arith,
+      omega (arith, l.invariant.1, c.used_up-j.ensures, used_small (get_or c.args.template.now l.i 0)),
+      leaving_goes _ _ l.invariant.2 c.loop-i-test.true c.number_at-n.ensures c.piece_size-size.ensures c.used_up-j.ensures c.if-left-size.false,
+    )
+
+pub returns : goal.returns
+returns c = sym (le-leb _ _ (leaving_ends _ _ c.loop-i.invariant.2 c.loop-i-test.false))

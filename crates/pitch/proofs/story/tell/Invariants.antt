@@ -1,0 +1,10 @@
+-- `pitch::story::tell` is safe and ends after 30 turns.
+use Prim.Native.Nat.{◌-◌, ◌≤◌}
+use borrow.Author.Rules.{rules}
+use Rattle.pitch.proofs.story.tell.Given as goal
+
+abbrev pub invariant-loop-clock : goal.invariant-loop-clock
+invariant-loop-clock l = l.clock ≤ 30
+
+abbrev pub decreases-loop-clock : goal.decreases-loop-clock
+decreases-loop-clock l = 30 - l.clock

@@ -1,0 +1,7 @@
+use Rattle.reader.specs.Reader.{ranged}
+use borrow.Author.Rules.{rules}
+use Rattle.reader.proofs.steps.read_ranged.Goals as goal
+
+pub returns : goal.returns
+unfolding ranged
+returns c = rw (← c.next_number-n.ensures, ← c.in_range-ok.ensures) c.judge.ensures

@@ -1,0 +1,19 @@
+-- The first k masks pass, and so does every mask of the bits that are kept.
+use Prim.Native.Nat.{◌-◌, ◌≤◌}
+use mathlib.Core.Path.{◌≡◌, sym, ◌∙◌}
+use mathlib.Core.Bool.{true}
+use native.Mathlib.Omega.{arith}
+use borrow.Author.Tests.{not-true, not-false}
+use lib.ListN.{get_or}
+use Rattle.basis.specs.Tests.{every}
+use Rattle.basis.proofs.TestLaws.{every-none, every-next, every_end}
+use Rattle.scheduler.specs.Taken.{mask_ok}
+use Rattle.runs.proofs.MaskLaws.{empty-passes, within-known, both_known}
+use borrow.Author.Rules.{rules}
+use Rattle.runs.proofs.stop.passing.Given as goal
+
+abbrev pub invariant-loop-k : goal.invariant-loop-k
+invariant-loop-k l = (l.k ≤ l.n) × (every l.k (λ i. mask_ok l.t (get_or l.masks i 0)) ≡ true) × (mask_ok l.t l.known ≡ true)
+
+abbrev pub decreases-loop-k : goal.decreases-loop-k
+decreases-loop-k l = l.n - l.k

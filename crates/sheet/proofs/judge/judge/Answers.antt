@@ -1,0 +1,50 @@
+-- The bytes of the cut numbers are put into a buffer that has room for three a number, and its front is judged.
+use Prim.Native.Nat.{ℕ, ◌+◌, ◌≤◌}
+use mathlib.Core.Path.{◌≡◌, sym, ◌∙◌}
+use mathlib.Core.List.{List, ◌++◌}
+use native.Mathlib.Nat.{zero-add}
+use native.Mathlib.Omega.{arith}
+use lib.ListN.{length, take, drop}
+use lib.Seq.{length-take-le, take-append_seam, sets-eq}
+use Rattle.writer.specs.Buffer.{Put}
+use Rattle.writer.proofs.WriterLaws.{put-length}
+use Rattle.sheet.specs.Scan.{cut_bytes}
+use Rattle.sheet.proofs.CutLaws.{Kept, kept-count, cut_short}
+use borrow.Author.Rules.{rules}
+use Rattle.sheet.proofs.judge.judge.Goals as goal
+use Rattle.sheet.proofs.judge.judge.Goals.{After-bytes-1, After-write_numbers-end}
+
+-- What was put from the start of a buffer on stands at its front.
+put_front : {b b' : List ℕ} {k : ℕ} {xs : List ℕ} → Put b 0 b' k xs → length xs ≤ length b → (k ≤ length b') × (take k b' ≡ xs)
+put_front {b} {b'} {k} {xs} p h =
+    let e : b' ≡ xs ++ drop (0 + length xs) b = p.holds ∙ sets-eq xs b 0 (omega arith) in
+    let q : k ≡ length xs = omega (arith, p.end) in
+    (omega (arith, put-length p, q, h), rw (q, e) (take-append_seam xs (drop (0 + length xs) b)))
+
+-- What was cut fits in its array, and its bytes in the buffer.
+kept : (c : After-bytes-1) → let a = c.args in Kept a.cut × (length (cut_bytes a.cut) ≤ 825)
+kept c = cut_short c.args.s.now c.args.cut c.requires
+
+-- The bytes of the cut numbers stand at the front of the buffer.
+front : (c : After-write_numbers-end) →
+    let b = c.write_numbers-end.new.0 in
+    (c.write_numbers-end.result ≤ length b) × (take c.write_numbers-end.result b ≡ cut_bytes c.args.cut)
+front c = put_front c.write_numbers-end.ensures (kept c.before?After-bytes-1).1
+
+pub slice_bounds-numbers-end : goal.slice_bounds-numbers-end
+slice_bounds-numbers-end c = let k = (kept c).0 in omega (arith, k.short, k.long)
+
+pub slice_bounds-write_numbers-end-2 : goal.slice_bounds-write_numbers-end-2
+slice_bounds-write_numbers-end-2 c = sym (kept-count (kept (goal.at.slice_bounds-write_numbers-end-2 c).After-bytes-1).0)
+
+pub write_numbers-end-requires : goal.write_numbers-end-requires
+write_numbers-end-requires c = record { fits = rw zero-add (kept (goal.at.write_numbers-end-requires c).After-bytes-1).1 }
+
+pub slice_bounds-bytes-end : goal.slice_bounds-bytes-end
+slice_bounds-bytes-end c = (front (goal.at.slice_bounds-bytes-end c).After-write_numbers-end).0
+
+pub slice_bounds-judge_bytes-end : goal.slice_bounds-judge_bytes-end
+slice_bounds-judge_bytes-end c = sym (length-take-le _ _ (front (goal.at.slice_bounds-judge_bytes-end c).After-write_numbers-end).0)
+
+pub judge_bytes-requires : goal.judge_bytes-requires
+judge_bytes-requires c = (c.requires, (front (goal.at.judge_bytes-requires c).After-write_numbers-end).1)

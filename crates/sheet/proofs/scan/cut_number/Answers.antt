@@ -1,0 +1,7 @@
+use Rattle.sheet.specs.Scan.{number_cut}
+use borrow.Author.Rules.{rules}
+use Rattle.sheet.proofs.scan.cut_number.Goals as goal
+
+pub returns : goal.returns
+unfolding number_cut
+returns c = rw (c.behind-next.ensures, c.end_refusal-refusal.ensures, c.is_line_over-last.ensures)

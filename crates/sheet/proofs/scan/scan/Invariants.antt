@@ -1,0 +1,11 @@
+use Prim.Native.Nat.{◌-◌, ◌≤◌}
+use mathlib.Core.Path.{◌≡◌, refl, ◌∙◌, ap}
+use native.Mathlib.Nat.{le_antisymm}
+use native.Mathlib.Omega.{arith}
+use Rattle.sheet.specs.Scan.{scanned}
+use Rattle.sheet.proofs.ScanSteps.{scanned-next}
+use borrow.Author.Rules.{rules}
+use Rattle.sheet.proofs.scan.scan.Given as goal
+
+abbrev pub invariant-loop-i : goal.invariant-loop-i
+invariant-loop-i l = (l.i ≤ l.n) × (l.c ≡ scanned l.s l.i)

@@ -1,0 +1,16 @@
+use Rattle.table.specs.Threads.{thread}
+use Rattle.state.specs.State.{each_thread}
+use Rattle.state.specs.Release.{has_event, released, release}
+use native.Mathlib.Omega.{arith}
+use native.Mathlib.Nat.{le_antisymm}
+use native.Mathlib.Numerals.{add-one}
+use mathlib.Core.Path.{◌≡◌, refl, sym, ◌∙◌}
+use Prim.Native.Nat.{ℕ, zero, suc, ◌≤◌, ◌<◌, ◌-◌, ◌+◌}
+use borrow.Author.Rules.{rules}
+use Rattle.state.proofs.State.release.Given as goal
+
+abbrev pub invariant-loop-i : goal.invariant-loop-i
+invariant-loop-i l = (l.i ≤ l.count) × (l.next ≡ each_thread (λ k. released (thread l.t k) l.initial.next.clock (has_event l.mask k)) l.i l.initial.next)
+
+abbrev pub decreases-loop-i : goal.decreases-loop-i
+decreases-loop-i l = l.count - l.i

@@ -1,0 +1,66 @@
+use Rattle.table.specs.Ranges.{within, versions, domain_counts, thread_counts}
+use Rattle.table.specs.Legal.{legal, is_nothing, place_legal}
+use Rattle.flow.proofs.GapLaws.{sought, gap-sought}
+use borrow.Author.Tests.{not-true, not-false}
+use mathlib.Core.Bool.{true}
+use mathlib.Core.Path.{◌≡◌, sym, ◌∙◌}
+use Rattle.basis.specs.Tests.{and, every}
+use Rattle.flow.specs.Gap.{first_gap}
+use Rattle.table.specs.declared.Table.{Table}
+use borrow.Author.Rules.{rules}
+use Rattle.table.proofs.judge.table_passes.Goals as goal
+use Rattle.table.proofs.judge.table_passes.Goals.{After-first_gap-gap, Else-not-in_range, Else-not-in_range-2, Else-not-in_range-3}
+
+pub returns-then-not-in_range : goal.returns-then-not-in_range
+unfolding legal
+returns-then-not-in_range c = rw (sym c.in_range.ensures ∙ c.if-not-in_range.true
+
+-- What has passed when the next test is asked.
+version-passes : (c : Else-not-in_range) → within versions c.args.t.version ≡ true
+version-passes c = sym c.in_range.ensures ∙ c.if-not-in_range.false
+
+domains-pass : (c : Else-not-in_range-2) → within domain_counts c.args.t.domains ≡ true
+domains-pass c = sym c.in_range-2.ensures ∙ c.if-not-in_range-2.false
+
+count-passes : (c : Else-not-in_range-3) → within thread_counts c.args.t.count ≡ true
+count-passes c = sym c.in_range-3.ensures ∙ c.if-not-in_range-3.false
+
+pub returns-then-not-in_range-2 : goal.returns-then-not-in_range-2
+unfolding legal
+returns-then-not-in_range-2 c = rw (version-passes (goal.at.returns-then-not-in_range-2 c).Else-not-in_range, sym c.in_range-2.ensures ∙ c.if-not-in_range-2.true
+
+pub returns-then-not-in_range-3 : goal.returns-then-not-in_range-3
+unfolding legal
+returns-then-not-in_range-3 c =
+    
+    rw (version-passes (goal.at.returns-then-not-in_range-3 c).Else-not-in_range, domains-pass (goal.at.returns-then-not-in_range-3 c).Else-not-in_range-2, sym c.in_range-3.ensures ∙ c.if-not-in_range-3.true
+
+pub returns-then-not-rows_are_legal : goal.returns-then-not-rows_are_legal
+unfolding legal
+returns-then-not-rows_are_legal c =
+    
+    
+    rw (version-passes (goal.at.returns-then-not-rows_are_legal c).Else-not-in_range, domains-pass (goal.at.returns-then-not-rows_are_legal c).Else-not-in_range-2, count-passes (goal.at.returns-then-not-rows_are_legal c).Else-not-in_range-3, sym c.rows_are_legal.ensures ∙ c.if-not-rows_are_legal.true
+
+-- Once the ranges and the rows have passed, what is left of the test.
+left : (c : After-first_gap-gap)
+    → let t = c.args.t in
+    legal t ≡ and (is_nothing (sought c.first_gap-gap.result)) (every 32 (place_legal t))
+unfolding legal
+left c =
+    
+    
+    let t : Table = c.args.t in
+    rw (
+      version-passes c.before?Else-not-in_range,
+      domains-pass c.before?Else-not-in_range-2,
+      count-passes c.before?Else-not-in_range-3,
+      sym c.rows_are_legal.ensures ∙ c.if-not-rows_are_legal.false,
+      gap-sought c.first_gap-gap.result (first_gap t.rows t.domains) c.first_gap-gap.ensures,
+    )
+
+pub returns-in-At : goal.returns-in-At
+returns-in-At c = rw (left (goal.at.returns-in-At c).After-first_gap-gap, c.in-At.is)
+
+pub returns-in-None : goal.returns-in-None
+returns-in-None c = rw (left (goal.at.returns-in-None c).After-first_gap-gap, c.in-None.is) c.places_are_legal.ensures

@@ -1,0 +1,12 @@
+-- What is still to be read ends as the whole does.
+use Prim.Native.Nat.{◌-◌, ◌≤◌}
+use mathlib.Core.Path.{◌≡◌, refl, sym, ◌∙◌}
+use native.Mathlib.Omega.{arith}
+use lib.ListN.{drop}
+use Rattle.typed.specs.FrameLines.{windows_read}
+use Rattle.typed.proofs.LineLaws.{windows-next, windows_end}
+use borrow.Author.Rules.{rules}
+use Rattle.typed.proofs.frame_lines.read_windows.Given as goal
+
+abbrev pub invariant-loop-i : goal.invariant-loop-i
+invariant-loop-i l = (l.i ≤ l.i-end) × (windows_read l.v (drop l.i l.part) ≡ windows_read l.initial.v l.part)

@@ -1,0 +1,7 @@
+use Rattle.typed.specs.FrameLines.{window_of, with_window}
+use borrow.Author.Rules.{rules}
+use Rattle.typed.proofs.frame_lines.take_length.Goals as goal
+
+pub returns : goal.returns
+unfolding with_window window_of
+returns c = cc (c.add.ensures, c.smaller.ensures)

@@ -1,0 +1,13 @@
+-- What is still to be spelt ends as the whole word does.
+use Prim.Native.Nat.{◌-◌, ◌≤◌}
+use mathlib.Core.Path.{◌≡◌, refl, sym, ◌∙◌}
+use native.Mathlib.Omega.{arith}
+use lib.ListN.{drop}
+use Rattle.typed.specs.Fields.{blank}
+use Rattle.typed.specs.Numbers.{spelt}
+use Rattle.typed.proofs.NumberLaws.{spelt-next, spelt_end}
+use borrow.Author.Rules.{rules}
+use Rattle.typed.proofs.numbers.spell.Given as goal
+
+abbrev pub invariant-loop-i : goal.invariant-loop-i
+invariant-loop-i l = (l.i ≤ l.i-end) × (spelt l.f (drop l.i l.word) ≡ spelt (blank 0) l.word)
