@@ -15,7 +15,6 @@ follow-requires c = numbers_of _ _ _ _ c.step_in_frame-r.result.outcome (ap (λ 
 pub returns : goal.returns
 unfolding driven
 returns c =
-    
     c.follow.ensures
     ∙ ap (λ (z : ℤ). follows c.args.t z c.args.s c.args.a (taken_of c.step_in_frame-r.result)) (to_z-of_z w64 c.args.command c.ranges.command)
     ∙ ap (follows c.args.t c.args.command c.args.s c.args.a) c.step_in_frame-r.ensures

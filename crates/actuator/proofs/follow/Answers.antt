@@ -30,21 +30,17 @@ in-ranges c = sym c.is_ranged.ensures ∙ c.if-not-is_ranged.false
 
 pub returns-then-t-a : goal.returns-then-t-a
 returns-then-t-a c =
-    
-    
     let w : Taken → Drove = follows c.args.t _ c.args.s c.args.a in
     c.refuse.ensures ∙ sym (ap w (made (goal.at.returns-then-t-a c).In-Chose-2) ∙ follows_15 c.args.t _ c.args.s c.args.a c.in-Chose.answer _ c.if-t-a.true)
 
 pub returns-then-not-is_ranged : goal.returns-then-not-is_ranged
 returns-then-not-is_ranged c =
-    
-    
     let w : Taken → Drove = follows c.args.t _ c.args.s c.args.a in
     c.refuse-then-not-is_ranged.ensures
     ∙ sym
     (ap w (made (goal.at.returns-then-not-is_ranged c).In-Chose-2)
     ∙ follows_20 c.args.t _ c.args.s c.args.a c.in-Chose.answer _ c.if-t-a.false
-    (sym c.is_ranged.ensures ∙ c.if-not-is_ranged.true)
+    (sym c.is_ranged.ensures ∙ c.if-not-is_ranged.true))
 
 pub move_to-requires : goal.move_to-requires
 move_to-requires c =
@@ -53,23 +49,18 @@ move_to-requires c =
 
 pub returns-else-not-is_ranged : goal.returns-else-not-is_ranged
 returns-else-not-is_ranged c =
-    
-    
-    let n = c.in-Chose.answer in
     let w : Taken → Drove = follows c.args.t c.args.command c.args.s c.args.a in
-    let e : c.move_to.result ≡ moved_to c.args.a (commanded c.args.a n c.args.command) =
+    let e : c.move_to.result ≡ moved_to c.args.a (commanded c.args.a c.in-Chose.answer c.args.command) =
     c.move_to.ensures
     ∙ ap (moved_to c.args.a)
     (to_z-of_z w32 c.stand-c.result (record { sfits = c.stand-c.type-inv })
     ∙ c.stand-c.ensures
-    ∙ ap (commanded c.args.a n) (to_z-of_z w64 c.args.command c.ranges.command)) in
-    ap (λ (x : Actuator). record { told = answered (values n); state = c.args.r.state; actuator = x }) e
-    ∙ sym (ap w (made (goal.at.returns-else-not-is_ranged c).In-Chose-2) ∙ follows_moves c.args.t c.args.command c.args.s c.args.a n _ c.if-t-a.false (in-ranges (goal.at.returns-else-not-is_ranged c).Else-not-is_ranged))
+    ∙ ap (commanded c.args.a c.in-Chose.answer) (to_z-of_z w64 c.args.command c.ranges.command)) in
+    ap (λ (x : Actuator). record { told = answered (values c.in-Chose.answer); state = c.args.r.state; actuator = x }) e
+    ∙ sym (ap w (made (goal.at.returns-else-not-is_ranged c).In-Chose-2) ∙ follows_moves c.args.t c.args.command c.args.s c.args.a c.in-Chose.answer _ c.if-t-a.false (in-ranges (goal.at.returns-else-not-is_ranged c).Else-not-is_ranged))
 
 pub returns-in-Refused : goal.returns-in-Refused
 returns-in-Refused c =
-    
-    
     let w : Taken → Drove = follows c.args.t _ c.args.s c.args.a in
     let h : Numbers c.args.r.outcome = c.requires in
     c.refuse-in-Refused.ensures ∙ sym (ap w (not_made (goal.at.returns-in-Refused c).In-Refused-2) ∙ follows-refused c.args.t _ c.args.s c.args.a c.in-Refused.why _ (rw c.in-Refused.is at h))

@@ -29,5 +29,4 @@ pub returns : goal.returns
 unfolding admitting bounds_given counts_given pick
 returns c =
     let e = lawful (goal.at.returns c).Else-not-legal in
-    let a = c.admit_legal.ensures in
-    (rw e a.0, rw e a.1, rw e a.2)
+    (rw e c.admit_legal.ensures.0, rw e c.admit_legal.ensures.1, rw e c.admit_legal.ensures.2)

@@ -27,14 +27,12 @@ returns-then-not-legal c = let e = sym c.legal.ensures ∙ c.if-not-legal.true i
 pub returns-then-t-i : goal.returns-then-t-i
 unfolding bounding count_given pick
 returns-then-t-i c =
-    let a = c.args in
     let e = lawful (goal.at.returns-then-t-i c).Else-not-legal in
-    let l = le-ltb a.i a.t.count (omega arith) in
+    let l = le-ltb c.args.i c.args.t.count (omega arith) in
     (rw (e, l), rw (e, l))
 
 pub find_bound-search-requires : goal.find_bound-search-requires
 find_bound-search-requires c =
-    
     (legal_sound _ (sized (goal.at.find_bound-search-requires c).Start) (lawful (goal.at.find_bound-search-requires c).Else-not-legal), omega arith)
 
 pub returns-in-At : goal.returns-in-At
@@ -42,13 +40,11 @@ unfolding bounding count_given pick
 returns-in-At c =
     let e = lawful (goal.at.returns-in-At c).Else-not-legal in
     let l = lt-ltb _ _ c.if-t-i.false in
-    let f = c.find_bound-search.ensures in
-    (rw (e, l, ← f.0) (sym (ap (λ r. sought_told (sought r)) c.in-At.is)), rw (e, l) f.1)
+    (rw (e, l, ← c.find_bound-search.ensures.0) (sym (ap (λ r. sought_told (sought r)) c.in-At.is)), rw (e, l) c.find_bound-search.ensures.1)
 
 pub returns-in-Nowhere : goal.returns-in-Nowhere
 unfolding bounding count_given pick
 returns-in-Nowhere c =
     let e = lawful (goal.at.returns-in-Nowhere c).Else-not-legal in
     let l = lt-ltb _ _ c.if-t-i.false in
-    let f = c.find_bound-search.ensures in
-    (rw (e, l, ← f.0) (sym (ap (λ r. sought_told (sought r)) c.in-Nowhere.is)), rw (e, l) f.1)
+    (rw (e, l, ← c.find_bound-search.ensures.0) (sym (ap (λ r. sought_told (sought r)) c.in-Nowhere.is)), rw (e, l) c.find_bound-search.ensures.1)

@@ -21,17 +21,15 @@ lawful c = sym c.legal.ensures ∙ c.if-not-legal.false
 
 pub returns-then-not-legal : goal.returns-then-not-legal
 unfolding idling pick
-returns-then-not-legal c = rw (sym c.legal.ensures ∙ c.if-not-legal.true
+returns-then-not-legal c = rw (sym c.legal.ensures ∙ c.if-not-legal.true)
 
 pub returns-then-t-h : goal.returns-then-t-h
 unfolding idling pick
 returns-then-t-h c =
-    let a = c.args in
-    rw (lawful (goal.at.returns-then-t-h c).Else-not-legal, le-ltb a.h a.t.count (omega arith))
+    rw (lawful (goal.at.returns-then-t-h c).Else-not-legal, le-ltb c.args.h c.args.t.count (omega arith))
 
 pub idle_within-requires : goal.idle_within-requires
 idle_within-requires c =
-    
     (legal_sound _ (sized (goal.at.idle_within-requires c).Start) (lawful (goal.at.idle_within-requires c).Else-not-legal), omega arith)
 
 pub returns : goal.returns

@@ -21,17 +21,15 @@ lawful c = sym c.legal.ensures ∙ c.if-not-legal.false
 
 pub returns-then-not-legal : goal.returns-then-not-legal
 unfolding prohibiting pick
-returns-then-not-legal c = rw (sym c.legal.ensures ∙ c.if-not-legal.true
+returns-then-not-legal c = rw (sym c.legal.ensures ∙ c.if-not-legal.true)
 
 pub returns-then-t-l : goal.returns-then-t-l
 unfolding prohibiting pick
 returns-then-t-l c =
-    let a = c.args in
-    rw (lawful (goal.at.returns-then-t-l c).Else-not-legal, le-ltb a.l a.t.count (omega arith))
+    rw (lawful (goal.at.returns-then-t-l c).Else-not-legal, le-ltb c.args.l c.args.t.count (omega arith))
 
 pub prohibition_time-requires : goal.prohibition_time-requires
 prohibition_time-requires c =
-    
     (legal_sound _ (sized (goal.at.prohibition_time-requires c).Start) (lawful (goal.at.prohibition_time-requires c).Else-not-legal), omega arith)
 
 pub returns : goal.returns

@@ -20,7 +20,7 @@ lawful c = sym c.legal.ensures ∙ c.if-not-legal.false
 
 pub returns-then-not-legal : goal.returns-then-not-legal
 unfolding worst_given pick
-returns-then-not-legal c = rw (sym c.legal.ensures ∙ c.if-not-legal.true
+returns-then-not-legal c = rw (sym c.legal.ensures ∙ c.if-not-legal.true)
 
 pub worst_of-requires : goal.worst_of-requires
 worst_of-requires c = legal_sound _ (sized (goal.at.worst_of-requires c).Start) (lawful c)

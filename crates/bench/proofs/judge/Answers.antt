@@ -6,7 +6,6 @@ use borrow.Author.Rules.{rules}
 use Rattle.bench.proofs.judge.Goals as goal
 
 pub run-requires : goal.run-requires
-run-requires c = let s = c.args.bytes.now in
-    let r = c.read-r in
-    let e : accepted r.result.table ≡ reading s = rw c.in-Accepted.is at r.ensures.0 in
-    ((accepted_exactly s r.ensures.1 r.result.table).0 (sym e)).0
+run-requires c =
+    let e : accepted c.read-r.result.table ≡ reading c.args.bytes.now = rw c.in-Accepted.is at c.read-r.ensures.0 in
+    ((accepted_exactly c.args.bytes.now c.read-r.ensures.1 c.read-r.result.table).0 (sym e)).0

@@ -14,9 +14,8 @@ use Rattle.bench.proofs.run.Goals.{After-fresh-start}
 fitting : (c : After-fresh-start) → Fits c.args.t c.fresh-start.result.state
 unfolding fresh_given pick
 fitting c =
-    let l = c.requires in
-    let e : c.fresh-start.result.state ≡ fresh c.args.t = rw (legal_complete _ l) at c.fresh-start.ensures.1 in
-    subst (Fits c.args.t) (sym e) (fresh-fits c.args.t l.count_high)
+    let e : c.fresh-start.result.state ≡ fresh c.args.t = rw (legal_complete _ c.requires) at c.fresh-start.ensures.1 in
+    subst (Fits c.args.t) (sym e) (fresh-fits c.args.t c.requires.count_high)
 
 pub loop-turns-init : goal.loop-turns-init
 loop-turns-init c = (search rules, search rules, fitting (goal.at.loop-turns-init c).After-fresh-start, c.requires.count_low)

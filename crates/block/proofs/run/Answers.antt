@@ -43,7 +43,7 @@ passing : (c : Else-number-ne0) → Passes c.args.t c.args.masks.now c.args.byte
 passing c = passes _ _ _ _ _ (sym c.refusal-number.ensures ∙ c.if-number-ne0.false)
 
 pub returns-then-not-legal : goal.returns-then-not-legal
-returns-then-not-legal c = block_refused _ unframed _ _ _ _ 11 (refused_11 _ unframed _ _ _ _ (sym c.legal.ensures ∙ c.if-not-legal.true) (eqb-false 11 0 refl)
+returns-then-not-legal c = block_refused _ unframed _ _ _ _ 11 (refused_11 _ unframed _ _ _ _ (sym c.legal.ensures ∙ c.if-not-legal.true)) (eqb-false 11 0 refl)
 
 pub refusal-number-requires : goal.refusal-number-requires
 refusal-number-requires c = ((sound c).count_high, (sound c).count_low)
@@ -56,11 +56,9 @@ prepare-p-requires c = (ready (goal.at.prepare-p-requires c).Else-not-legal).few
 
 pub play-end-requires : goal.play-end-requires
 play-end-requires c =
-    
-    let p = c.prepare-p.ensures in
     let g = passing (goal.at.play-end-requires c).Else-number-ne0 in
     (
-      (ready (goal.at.play-end-requires c).Else-not-legal, p.0, rw p.1 (order_below c.args.t)),
+      (ready (goal.at.play-end-requires c).Else-not-legal, c.prepare-p.ensures.0, rw c.prepare-p.ensures.1 (order_below c.args.t)),
       (
         (fits_sound _ _ (ready (goal.at.play-end-requires c).Else-not-legal).few (long (goal.at.play-end-requires c).Start) g.fitting, g.early, g.long),
         (search rules, omega (arith, g.roomy)),
@@ -69,8 +67,5 @@ play-end-requires c =
 
 pub returns : goal.returns
 returns c =
-    
-    
-    let p = c.prepare-p.ensures in
     let g = passing (goal.at.returns c).Else-number-ne0 in
-    unframed_made _ _ _ _ _ _ _ _ _ p.2 p.1 c.play-end.ensures.0 c.play-end.ensures.1 g.roomy (numbered (goal.at.returns c).After-refusal-number ∙ c.if-number-ne0.false)
+    unframed_made _ _ _ _ _ _ _ _ _ c.prepare-p.ensures.2 c.prepare-p.ensures.1 c.play-end.ensures.0 c.play-end.ensures.1 g.roomy (numbered (goal.at.returns c).After-refusal-number ∙ c.if-number-ne0.false)

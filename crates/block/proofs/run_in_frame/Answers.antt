@@ -57,7 +57,7 @@ passing : (c : Else-number-ne0) → Passes c.args.t c.args.masks.now c.args.byte
 passing c = passes _ _ _ _ _ (sym c.refusal-number.ensures ∙ c.if-number-ne0.false)
 
 pub returns-then-not-legal : goal.returns-then-not-legal
-returns-then-not-legal c = block_refused _ (framed c.args.f) _ _ _ _ 11 (refused_11 _ (framed c.args.f) _ _ _ _ (sym c.legal.ensures ∙ c.if-not-legal.true) (eqb-false 11 0 refl)
+returns-then-not-legal c = block_refused _ (framed c.args.f) _ _ _ _ 11 (refused_11 _ (framed c.args.f) _ _ _ _ (sym c.legal.ensures ∙ c.if-not-legal.true)) (eqb-false 11 0 refl)
 
 pub returns-then-not-frame_passes : goal.returns-then-not-frame_passes
 returns-then-not-frame_passes c = block_refused _ (framed c.args.f) _ _ _ _ 19 (refused_19 _ (framed c.args.f) _ _ _ _ (lawful (goal.at.returns-then-not-frame_passes c).Else-not-legal) (fails c)) (eqb-false 19 0 refl)
@@ -73,16 +73,12 @@ prepare-all-requires c = (ready (goal.at.prepare-all-requires c).Else-not-legal)
 
 pub play_in_frame-end-requires : goal.play_in_frame-end-requires
 play_in_frame-end-requires c =
-    
-    let p = c.prepare-all.ensures in
     let g = passing (goal.at.play_in_frame-end-requires c).Else-number-ne0 in
     let u = ready (goal.at.play_in_frame-end-requires c).Else-not-legal in (
-      (u, timed (goal.at.play_in_frame-end-requires c).Else-not-frame_passes, p.0, p.1, p.2),
+      (u, timed (goal.at.play_in_frame-end-requires c).Else-not-frame_passes, c.prepare-all.ensures.0, c.prepare-all.ensures.1, c.prepare-all.ensures.2),
       (fits_sound _ _ u.few (long (goal.at.play_in_frame-end-requires c).Start) g.fitting, g.early, g.long, g.roomy),
     )
 
 pub returns : goal.returns
 returns c =
-    
-    
     mode-made _ (framed c.args.f) _ _ _ _ _ _ c.play_in_frame-end.ensures.0 c.play_in_frame-end.ensures.1 (passing (goal.at.returns c).Else-number-ne0).roomy (numbered (goal.at.returns c).After-refusal-number ∙ c.if-number-ne0.false)

@@ -12,23 +12,17 @@ use Rattle.cleaning.proofs.judge.Goals as goal
 
 pub returns-then-not-legal : goal.returns-then-not-legal
 unfolding reported pick
-returns-then-not-legal c = rw (sym c.legal.ensures ∙ c.if-not-legal.true
+returns-then-not-legal c = rw (sym c.legal.ensures ∙ c.if-not-legal.true)
 
 pub returns-then-places-written : goal.returns-then-places-written
 returns-then-places-written c =
-    
-    
     let ok : legal c.args.t ≡ true = sym c.legal.ensures ∙ c.if-not-legal.false in
-    let told = c.tally-r.ensures in
     short-of c.args.t _ c.args.trace.now ok c.ways_of-w.ensures c.args.places
-    (omega (arith, c.if-places-written.true, c.written.ensures ∙ ap entries told))
+    (omega (arith, c.if-places-written.true, c.written.ensures ∙ ap entries c.tally-r.ensures))
 
 pub returns : goal.returns
 returns c =
-    
-    
     let ok : legal c.args.t ≡ true = sym c.legal.ensures ∙ c.if-not-legal.false in
-    let told = c.tally-r.ensures in
-    told
+    c.tally-r.ensures
     ∙ room_for c.args.t _ c.args.trace.now ok c.ways_of-w.ensures c.args.places
-    (omega (arith, c.if-places-written.false, c.written.ensures ∙ ap entries told))
+    (omega (arith, c.if-places-written.false, c.written.ensures ∙ ap entries c.tally-r.ensures))

@@ -12,8 +12,6 @@ loop-i-init c = refl
 
 pub loop-i-preserved : goal.loop-i-preserved
 loop-i-preserved c =
-    
-    
     let goes : ℕ → ℕ = λ a. last_run c.args.t a (drop (c.loop-i.i + 1) c.args.trace.now) in
     ap goes c.latest_of-a.ensures ∙ sym (last-at c.args.t c.args.trace.now c.loop-i.i c.loop-i.a c.loop-i-test.true) ∙ c.loop-i.invariant
 

@@ -19,5 +19,4 @@ returns-then-a-b c = rw (lt-ltb _ _ c.if-n-b.false, lt-ltb _ _ c.if-n-a.false, e
 pub returns : goal.returns
 unfolding barred
 returns c =
-    
     rw (c.may_pass.ensures, lt-ltb _ _ c.if-n-b.false, lt-ltb _ _ c.if-n-a.false, ne_eqb _ _ c.if-a-b.false)

@@ -14,15 +14,11 @@ loop-i-init c = refl
 
 pub returns-then-must_clean : goal.returns-then-must_clean
 returns-then-must_clean c =
-    
-    
     sym (ap first (at-due (barred c.args.n c.args.w.now) c.args.n c.args.trace.now c.loop-i.i c.loop-i.a c.loop-i-test.true (sym c.must_clean.ensures ∙ c.if-must_clean.true)))
     ∙ c.loop-i.invariant
 
 pub loop-i-preserved : goal.loop-i-preserved
 loop-i-preserved c =
-    
-    
     let goes : ℕ → Cleaning = λ a. first (cleaned (barred c.args.n c.args.w.now) c.args.n (c.loop-i.i + 1) a (drop (c.loop-i.i + 1) c.args.trace.now)) in
     ap goes c.latest_of-a.ensures
     ∙ sym (ap first (at_none (barred c.args.n c.args.w.now) c.args.n c.args.trace.now c.loop-i.i c.loop-i.a c.loop-i-test.true (sym c.must_clean.ensures ∙ c.if-must_clean.false)))
@@ -30,6 +26,4 @@ loop-i-preserved c =
 
 pub returns : goal.returns
 returns c =
-    
-    
     c.no_cleaning.ensures ∙ sym (ap first (at_end (barred c.args.n c.args.w.now) c.args.n c.args.trace.now c.loop-i.i c.loop-i.a c.loop-i-test.false)) ∙ c.loop-i.invariant

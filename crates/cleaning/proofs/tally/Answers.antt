@@ -21,8 +21,6 @@ loop-i-init c = (omega arith, omega arith, refl)
 pub returns-then-not-is_known : goal.returns-then-not-is_known
 unfolding tallied pick
 returns-then-not-is_known c =
-    
-    
     let unknown : known c.args.n (get_or c.args.trace.now c.loop-i.i 0) ≡ false = sym c.is_Known.ensures ∙ c.if-not-is_known.true in
     let refused : all_known c.args.n c.args.trace.now ≡ false
     = sym c.loop-i.invariant.2 ∙ rw unknown at (at-known c.args.n c.args.trace.now c.loop-i.i c.loop-i-test.true) in
@@ -30,28 +28,20 @@ returns-then-not-is_known c =
 
 pub loop-i-preserved : goal.loop-i-preserved
 loop-i-preserved c =
-    
-    
-    let n = c.args.n in
-    let tr = c.args.trace.now in
-    let must : ℕ → ℕ → Bool = barred n c.args.w.now in
-    let within = c.loop-i-test.true in
-    let said = c.must_clean.ensures in
-    let named : known n (get_or tr c.loop-i.i 0) ≡ true = sym c.is_Known.ensures ∙ c.if-not-is_known.false in
-    let rest : ℕ → ℕ = λ a. length (cleaned must n (c.loop-i.i + 1) a (drop (c.loop-i.i + 1) tr)) in (
+    let must : ℕ → ℕ → Bool = barred c.args.n c.args.w.now in
+    let named : known c.args.n (get_or c.args.trace.now c.loop-i.i 0) ≡ true = sym c.is_Known.ensures ∙ c.if-not-is_known.false in
+    let rest : ℕ → ℕ = λ a. length (cleaned must c.args.n (c.loop-i.i + 1) a (drop (c.loop-i.i + 1) c.args.trace.now)) in (
       ⊎_elim (λ w. omega arith) (λ w. omega arith) c.if-must_clean.branch,
       ⊎_elim
-          (λ w. omega (arith, ap rest c.latest_of-a.ensures, c.loop-i.invariant.1, ap length (at-due must n tr c.loop-i.i c.loop-i.a within (sym said ∙ w.0.taken))))
-          (λ w. omega (arith, ap rest c.latest_of-a.ensures, c.loop-i.invariant.1, ap length (at_none must n tr c.loop-i.i c.loop-i.a within (sym said ∙ w.0.left))))
+          (λ w. omega (arith, ap rest c.latest_of-a.ensures, c.loop-i.invariant.1, ap length (at-due must c.args.n c.args.trace.now c.loop-i.i c.loop-i.a c.loop-i-test.true (sym c.must_clean.ensures ∙ w.0.taken))))
+          (λ w. omega (arith, ap rest c.latest_of-a.ensures, c.loop-i.invariant.1, ap length (at_none must c.args.n c.args.trace.now c.loop-i.i c.loop-i.a c.loop-i-test.true (sym c.must_clean.ensures ∙ w.0.left))))
           c.if-must_clean.branch,
-      sym (rw named at (at-known n tr c.loop-i.i within)) ∙ c.loop-i.invariant.2,
+      sym (rw named at (at-known c.args.n c.args.trace.now c.loop-i.i c.loop-i-test.true)) ∙ c.loop-i.invariant.2,
     )
 
 pub returns : goal.returns
 unfolding tallied pick
 returns c =
-    
-    
     let done = at_end (barred c.args.n c.args.w.now) c.args.n c.args.trace.now c.loop-i.i c.loop-i.a c.loop-i-test.false in
     let named : all_known c.args.n c.args.trace.now ≡ true = sym c.loop-i.invariant.2 ∙ known_end c.args.n c.args.trace.now c.loop-i.i c.loop-i-test.false in
     rw named (ap Cleaned (omega (arith, rw done at c.loop-i.invariant.1)))

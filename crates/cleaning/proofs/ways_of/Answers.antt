@@ -12,7 +12,6 @@ loop-i-init c = (omega arith, refl, begun-none _ _)
 
 pub loop-i-preserved : goal.loop-i-preserved
 loop-i-preserved c =
-    
     (
       omega arith,
       simp length-set c.loop-i.invariant.1,

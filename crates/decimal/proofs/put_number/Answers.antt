@@ -16,26 +16,21 @@ loop-k-init c = (omega arith, omega arith, refl, refl)
 
 pub bounds-buf-k : goal.bounds-buf-k
 bounds-buf-k c =
-    
-    let i = c.loop-k.invariant in
-    omega (arith, i.1, i.2, c.requires.fits, c.places.ensures, c.loop-k-test.true)
+    omega (arith, c.loop-k.invariant.1, c.loop-k.invariant.2, c.requires.fits, c.places.ensures, c.loop-k-test.true)
 
 pub loop-k-preserved : goal.loop-k-preserved
 loop-k-preserved c =
-    
-    let l = c.loop-k in (
+    (
       omega arith,
-      omega (arith, l.invariant.1),
-      length-set l.buf (l.k - 1) c.last_digit.result ∙ l.invariant.2,
-      ap (λ (d : ℕ). sets (set l.buf (l.k - 1) d) c.args.at (last_digits (l.k - 1 - c.args.at) (l.rest / 10))) c.last_digit.ensures
-          ∙ digit-put l.buf c.args.at l.k l.rest c.loop-k-test.true ∙ l.invariant.3,
+      omega (arith, c.loop-k.invariant.1),
+      length-set c.loop-k.buf (c.loop-k.k - 1) c.last_digit.result ∙ c.loop-k.invariant.2,
+      ap (λ (d : ℕ). sets (set c.loop-k.buf (c.loop-k.k - 1) d) c.args.at (last_digits (c.loop-k.k - 1 - c.args.at) (c.loop-k.rest / 10))) c.last_digit.ensures
+          ∙ digit-put c.loop-k.buf c.args.at c.loop-k.k c.loop-k.rest c.loop-k-test.true ∙ c.loop-k.invariant.3,
     )
 
 pub returns : goal.returns
 returns c =
-    
-    let l = c.loop-k in
     record {
       end = omega (arith, c.places.ensures);
-      holds = digits_end c.args.buf.now l.buf c.args.at l.k _ l.rest c.args.n c.loop-k-test.false (omega (arith, c.places.ensures)) l.invariant.3;
+      holds = digits_end c.args.buf.now c.loop-k.buf c.args.at c.loop-k.k _ c.loop-k.rest c.args.n c.loop-k-test.false (omega (arith, c.places.ensures)) c.loop-k.invariant.3;
     }

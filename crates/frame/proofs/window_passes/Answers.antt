@@ -6,8 +6,8 @@ use Rattle.frame.proofs.window_passes.Goals as goal
 
 pub returns-then-domains-w : goal.returns-then-domains-w
 unfolding window_ok
-returns-then-domains-w c = let a = c.args in rw (le-ltb a.w.domain a.domains (omega arith))
+returns-then-domains-w c = rw (le-ltb c.args.w.domain c.args.domains (omega arith))
 
 pub returns : goal.returns
 unfolding window_ok
-returns c = let a = c.args in rw (lt-ltb a.w.domain a.domains (omega arith)) c.in_range.ensures
+returns c = rw (lt-ltb c.args.w.domain c.args.domains (omega arith)) c.in_range.ensures

@@ -13,8 +13,7 @@ use Rattle.frame.proofs.window_within.Goals.{After-struct_known-1}
 -- After the sum the end of window k is at hand.
 next : (c : After-struct_known-1)
     → 
-    let f = c.args.f in
-    c.loop-k.end + (window f c.loop-k.k).length ≡ before f (suc c.loop-k.k)
+    c.loop-k.end + (window c.args.f c.loop-k.k).length ≡ before c.args.f (suc c.loop-k.k)
 next c = before-next _ c.loop-k.k c.loop-k.invariant.2
 
 pub loop-k-init : goal.loop-k-init
@@ -23,13 +22,11 @@ loop-k-init c = (search rules, search rules, sym (before-none _), first-none _)
 pub returns-then-place-end : goal.returns-then-place-end
 unfolding window_within
 returns-then-place-end c =
-    
     let h = rw (next (goal.at.returns-then-place-end c).After-struct_known-1) at c.if-place-end.true in
     ap number (sym (first_hit _ _ _ _ c.loop-k.invariant.3 (behind _ _ _ h) c.loop-k-test.true))
 
 pub loop-k-preserved : goal.loop-k-preserved
 loop-k-preserved c =
-    
     let h = rw (next (goal.at.loop-k-preserved c).After-struct_known-1) at c.if-place-end.false in
     (search rules, search rules, rw add-one (next (goal.at.loop-k-preserved c).After-struct_known-1), first_next _ _ c.loop-k.invariant.3 (not_behind _ _ _ h))
 

@@ -12,9 +12,8 @@ use Rattle.host.proofs.mark_number.Goals as goal
 
 pub returns-then-i-ge32 : goal.returns-then-i-ge32
 returns-then-i-ge32 c =
-    let t = c.args.t in
-    let h : length (marks_given t) ≤ c.args.i = rw (marks_length t) c.if-i-ge32.true in
-    sym (number_by t c.args.i nothing (get_or-eq_default (marks_given t) (mark nothing) h))
+    let h : length (marks_given c.args.t) ≤ c.args.i = rw (marks_length c.args.t) c.if-i-ge32.true in
+    sym (number_by c.args.t c.args.i nothing (get_or-eq_default (marks_given c.args.t) (mark nothing) h))
 
 pub returns-then-mark : goal.returns-then-mark
 unfolding mark_number pick

@@ -18,12 +18,9 @@ returns-then-next-at c = (omega (arith, ?LOST?c.before.before.before.before.befo
 
 pub returns : goal.returns
 returns c =
-    
-    let l = ?LOST?c.before.before.before.before.before.before.before.before.before.args.buf.now in
-    let r = c.read in
-    let m : c.count.result ≤ length (take (length l - ?LOST?c.before.before.before.before.before.before.before.before.before.args.at) (drop ?LOST?c.before.before.before.before.before.before.before.before.before.args.at l)) =
-    moved_counts _ _ _ r.result r.ensures (rw (to_z-of_z {w = w64} {z = r.result} (record { sfits = r.type-inv })) at c.count.ensures.1) in (
-      omega (arith, length-take (length l - ?LOST?c.before.before.before.before.before.before.before.before.before.args.at) (drop ?LOST?c.before.before.before.before.before.before.before.before.before.args.at l), ?LOST?c.before.before.before.before.before.before.before.before.before.requires, same-length-3 c),
+    let m : c.count.result ≤ length (take (length ?LOST?c.before.before.before.before.before.before.before.before.before.args.buf.now - ?LOST?c.before.before.before.before.before.before.before.before.before.args.at) (drop ?LOST?c.before.before.before.before.before.before.before.before.before.args.at ?LOST?c.before.before.before.before.before.before.before.before.before.args.buf.now)) =
+    moved_counts _ _ _ c.read.result c.read.ensures (rw (to_z-of_z {w = w64} {z = c.read.result} (record { sfits = c.read.type-inv })) at c.count.ensures.1) in (
+      omega (arith, length-take (length ?LOST?c.before.before.before.before.before.before.before.before.before.args.buf.now - ?LOST?c.before.before.before.before.before.before.before.before.before.args.at) (drop ?LOST?c.before.before.before.before.before.before.before.before.before.args.at ?LOST?c.before.before.before.before.before.before.before.before.before.args.buf.now), ?LOST?c.before.before.before.before.before.before.before.before.before.requires, same-length-3 c),
       omega arith,
       take_put _ (length ?LOST?c.before.before.before.before.before.before.before.before.before.args.buf.now - ?LOST?c.before.before.before.before.before.before.before.before.before.args.at) _ c.read.new.1.0 ?LOST?c.before.before.before.before.before.before.before.before.before.requires,
     )

@@ -14,11 +14,9 @@ loop-i-init c = (search rules, search rules, listed-none (λ k. get_or c.args.gi
 
 pub loop-i-preserved : goal.loop-i-preserved
 loop-i-preserved c =
-    
     (search rules, search rules, rw c.loop-i.invariant.2 (listed_next (λ k. get_or c.args.given.now k 0) 0 c.loop-i.i 16 (search rules)))
 
 pub returns : goal.returns
 returns c =
-    let l = c.loop-i in
-    let e : l.i ≡ length c.args.given.now = omega arith in
-    rw (l.invariant.2, e, listed-all c.args.given.now 0)
+    let e : c.loop-i.i ≡ length c.args.given.now = omega arith in
+    rw (c.loop-i.invariant.2, e, listed-all c.args.given.now 0)

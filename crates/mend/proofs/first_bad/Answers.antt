@@ -14,10 +14,10 @@ loop-i-init c = (search rules, first-none _)
 
 pub returns-then-not-row_passes : goal.returns-then-not-row_passes
 unfolding bad_row
-returns-then-not-row_passes c = sym (first_hit _ _ _ _ c.loop-i.invariant.1 (bad_hit _ _ _ (sym c.row_passes.ensures ∙ c.if-not-row_passes.true) c.loop-i-test.true)
+returns-then-not-row_passes c = sym (first_hit _ _ _ _ c.loop-i.invariant.1 (bad_hit _ _ _ (sym c.row_passes.ensures ∙ c.if-not-row_passes.true)) c.loop-i-test.true)
 
 pub loop-i-preserved : goal.loop-i-preserved
-loop-i-preserved c = (search rules, first_next _ _ c.loop-i.invariant.1 (bad-none _ _ _ (sym c.row_passes.ensures ∙ c.if-not-row_passes.false))
+loop-i-preserved c = (search rules, first_next _ _ c.loop-i.invariant.1 (bad-none _ _ _ (sym c.row_passes.ensures ∙ c.if-not-row_passes.false)))
 
 pub returns : goal.returns
 unfolding bad_row

@@ -18,27 +18,25 @@ at-start : (c : Else-n-gt16) → count_ok (length c.args.given.now) ≡ true
 at-start c = count_in _ (omega arith) (omega arith)
 
 -- What the search for a row that does not pass answers of the rows given.
-searched : (c : After-first_bad-fault) → let g = c.args.given.now in bad_row (length g) (full g) ≡ sought c.first_bad-fault.result
+searched : (c : After-first_bad-fault) → bad_row (length c.args.given.now) (full c.args.given.now) ≡ sought c.first_bad-fault.result
 searched c = sym (ap (bad_row _) c.copied-rows.ensures) ∙ sym c.first_bad-fault.ensures
 
-none-bad : (c : In_default) → let g = c.args.given.now in bad_row (length g) (full g) ≡ nothing
+none-bad : (c : In_default) → bad_row (length c.args.given.now) (full c.args.given.now) ≡ nothing
 none-bad c = searched c.before?After-first_bad-fault ∙ ap sought c.in_default.is
 
 -- The rows mended, and how many pairs they have more.
-rows-mended : (c : After-mended-ms) → let g = c.args.given.now in
-    c.mended-ms.result ≡ mended (length g) (full g)
+rows-mended : (c : After-mended-ms) → 
+    c.mended-ms.result ≡ mended (length c.args.given.now) (full c.args.given.now)
 rows-mended c = c.mended-ms.ensures ∙ ap (mended _) c.copied-rows.ensures
 
-counted : (c : After-count_added-count) → let g = c.args.given.now in
-    c.count_added-count.result ≡ count (full g) (mended (length g) (full g)) 16
+counted : (c : After-count_added-count) → 
+    c.count_added-count.result ≡ count (full c.args.given.now) (mended (length c.args.given.now) (full c.args.given.now)) 16
 counted c = c.count_added-count.ensures ∙ rw (c.copied-rows.ensures, rows-mended c.before?After-mended-ms)
 
 -- They have room.
 all_room : (c : Else-pairs-count) → length (added c.copied-rows.result c.mended-ms.result 256)
     ≤ length c.args.pairs.now
 all_room c =
-    
-    
     let w : Wider c.copied-rows.result c.mended-ms.result = rw c.mended-ms.ensures (mended_wider _ _ c.if-n-gt16.false) in
     omega (arith, added-count c.copied-rows.result c.mended-ms.result w, c.count_added-count.ensures, c.if-pairs-count.false)
 
@@ -57,8 +55,6 @@ count_added-count-requires c =
 
 pub returns-then-pairs-count : goal.returns-then-pairs-count
 returns-then-pairs-count c =
-    
-    
     refused_as _ _ _ c.refused-then-pairs-count.ensures ∙ told-short _ _ (at-start (goal.at.returns-then-pairs-count c).Else-n-gt16) (none-bad (goal.at.returns-then-pairs-count c).In_default) (omega (arith, counted (goal.at.returns-then-pairs-count c).After-count_added-count, c.if-pairs-count.true))
 
 pub list_added-requires : goal.list_added-requires
@@ -66,8 +62,5 @@ list_added-requires c = all_room (goal.at.list_added-requires c).Else-pairs-coun
 
 pub returns : goal.returns
 returns c =
-    
-    
-    
     done_as _ _ c.copied-rows.result c.mended-ms.result _ c.count_added-count.result c.copied-rows.ensures (rows-mended (goal.at.returns c).After-mended-ms) c.count_added-count.ensures
     c.list_added.ensures (at-start (goal.at.returns c).Else-n-gt16) (none-bad (goal.at.returns c).In_default) (omega (arith, c.if-pairs-count.false))

@@ -13,17 +13,14 @@ loop-i-init c = (omega arith, omega arith, record { sum = refl })
 
 pub returns-then-left-size : goal.returns-then-left-size
 returns-then-left-size c =
-    
-    let l = c.loop-i in
-    sym (lt-leb _ _ (leaving_short _ _ l.invariant.2 c.loop-i-test.true c.number_at-n.ensures c.piece_size-size.ensures c.if-left-size.true))
+    sym (lt-leb _ _ (leaving_short _ _ c.loop-i.invariant.2 c.loop-i-test.true c.number_at-n.ensures c.piece_size-size.ensures c.if-left-size.true))
 
 pub loop-i-preserved : goal.loop-i-preserved
 loop-i-preserved c =
-    
-    let l = c.loop-i in (
+    (
       omega arith,
-      omega (arith, l.invariant.1, c.used_up-j.ensures, used_small (get_or c.args.template.now l.i 0)),
-      leaving_goes _ _ l.invariant.2 c.loop-i-test.true c.number_at-n.ensures c.piece_size-size.ensures c.used_up-j.ensures c.if-left-size.false,
+      omega (arith, c.loop-i.invariant.1, c.used_up-j.ensures, used_small (get_or c.args.template.now c.loop-i.i 0)),
+      leaving_goes _ _ c.loop-i.invariant.2 c.loop-i-test.true c.number_at-n.ensures c.piece_size-size.ensures c.used_up-j.ensures c.if-left-size.false,
     )
 
 pub returns : goal.returns

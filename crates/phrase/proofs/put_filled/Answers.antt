@@ -12,16 +12,14 @@ loop-i-init c = (omega arith, omega arith, filling_starts _ _ _ _)
 
 pub put_piece-k-requires : goal.put_piece-k-requires
 put_piece-k-requires c =
-    
     filling_room _ _ c.loop-i.invariant.2 c.requires c.loop-i-test.true c.number_at-n.ensures
 
 pub loop-i-preserved : goal.loop-i-preserved
 loop-i-preserved c =
-    
-    let l = c.loop-i in (
+    (
       omega (arith, c.loop-i-test.true),
-      omega (arith, l.invariant.1, c.used_up-j.ensures, used_small (get_or c.args.template.now l.i 0)),
-      filling_goes _ _ l.invariant.2 c.loop-i-test.true c.number_at-n.ensures c.used_up-j.ensures c.put_piece-k.ensures,
+      omega (arith, c.loop-i.invariant.1, c.used_up-j.ensures, used_small (get_or c.args.template.now c.loop-i.i 0)),
+      filling_goes _ _ c.loop-i.invariant.2 c.loop-i-test.true c.number_at-n.ensures c.used_up-j.ensures c.put_piece-k.ensures,
     )
 
 pub shape_of-buf : goal.shape_of-buf

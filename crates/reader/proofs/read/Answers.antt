@@ -14,12 +14,8 @@ use Rattle.reader.proofs.read.Goals.{After-struct_known-4-1}
 -- What was read after the rows, by the parts that the code has in hand.
 from-rows : (c : After-struct_known-4-1)
     → 
-    
-    let s = c.args.s.now in
-    reading s ≡ after_rows s c.read_ranged-v.result.value c.read_ranged-d.result.value c.read_ranged-n.result.value c.read_rows-r.result
+    reading c.args.s.now ≡ after_rows c.args.s.now c.read_ranged-v.result.value c.read_ranged-d.result.value c.read_ranged-n.result.value c.read_rows-r.result
 from-rows c =
-    
-    
     reading-is _ _ _ _ _ c.read_ranged-v.ensures c.read_ranged-d.ensures c.read_ranged-n.ensures c.read_rows-r.ensures
 
 pub overflow_cast-version : goal.overflow_cast-version

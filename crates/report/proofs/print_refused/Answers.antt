@@ -38,7 +38,6 @@ whole c = put_join (placed c.before?After-text-8-1) c.put-e.ensures
 
 roomy : (c : After-put-e) → c.put-e.result ≤ length c.put-e.new.0
 roomy c =
-    
     omega (arith, (whole c).end, put-length (whole c), refused_long c.args.number c.args.place)
 
 pub put_number-b-requires : goal.put_number-b-requires

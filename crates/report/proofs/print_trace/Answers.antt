@@ -17,25 +17,19 @@ loop-k-init c = (omega arith, omega arith, omega arith, put-none _ _)
 
 pub put_line-next-requires : goal.put_line-next-requires
 put_line-next-requires c =
-    
-    let l = c.loop-k in
-    omega (arith, l.invariant.2, put-length l.invariant.3, c.requires.0, c.loop-k-test.true)
+    omega (arith, c.loop-k.invariant.2, put-length c.loop-k.invariant.3, c.requires.0, c.loop-k-test.true)
 
 pub overflow_add-c : goal.overflow_add-c
 overflow_add-c c =
-    
-    let l = c.loop-k in
-    omega (arith, l.invariant.1, c.requires.1, c.loop-k-test.true)
+    omega (arith, c.loop-k.invariant.1, c.requires.1, c.loop-k-test.true)
 
 pub loop-k-preserved : goal.loop-k-preserved
 loop-k-preserved c =
-    
-    let l = c.loop-k in
-    let p = c.put_line-next.ensures in (
+    (
       omega (arith, c.loop-k-test.true),
-      omega (arith, l.invariant.1),
-      omega (arith, p.0, l.invariant.2),
-      rw (trace_lines-next c.args.clock c.args.trace.now l.k c.loop-k-test.true, ← l.invariant.1) (put_join l.invariant.3 p.1),
+      omega (arith, c.loop-k.invariant.1),
+      omega (arith, c.put_line-next.ensures.0, c.loop-k.invariant.2),
+      rw (trace_lines-next c.args.clock c.args.trace.now c.loop-k.k c.loop-k-test.true, ← c.loop-k.invariant.1) (put_join c.loop-k.invariant.3 c.put_line-next.ensures.1),
     )
 
 pub shape_of-buf : goal.shape_of-buf
@@ -43,8 +37,7 @@ shape_of-buf c = put-length c.loop-k.invariant.3
 
 pub returns : goal.returns
 returns c =
-    
-    let l = c.loop-k in (
-      omega (arith, l.invariant.0, l.invariant.2),
-      rw (take_all l.k c.args.trace.now c.loop-k-test.false) at l.invariant.3,
+    (
+      omega (arith, c.loop-k.invariant.0, c.loop-k.invariant.2),
+      rw (take_all c.loop-k.k c.args.trace.now c.loop-k-test.false) at c.loop-k.invariant.3,
     )

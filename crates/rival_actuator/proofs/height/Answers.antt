@@ -11,7 +11,6 @@ use Rattle.rival_actuator.proofs.height.Goals.{Else-z-gt95000}
 
 up : (c : Else-z-gt95000) → Raised c.args.z
 up c =
-    
     raised c.args.z (plain (λ z. lt_z z (negsuc 4999) ≡ false) c.ranges.z c.if-z-ltminus5000.false) (plain (λ z. lt_z (pos 95000) z ≡ false) c.ranges.z c.if-z-gt95000.false)
 
 pub overflow_add-result : goal.overflow_add-result

@@ -31,22 +31,15 @@ passing c =
 
 pub returns-then-why-ne0 : goal.returns-then-why-ne0
 returns-then-why-ne0 c =
-    
-    
     let s = start (goal.at.returns-then-why-ne0 c).After-whole_steps-steps in
     ran-refused s.args.t (mode_of s.args.framed s.args.f) s.args.masks.now s.args.bytes.now s.args.s s.args.part.now _ _ c.whole_steps-steps.ensures c.refusal-why.ensures c.if-why-ne0.true
 
 pub play-requires : goal.play-requires
 play-requires c =
-    
     let k = passing (goal.at.play-requires c).Else-why-ne0 in
     (k.lawful, k.moded, k.fitting, omega (arith, k.roomy, c.whole_steps-steps.ensures))
 
 pub returns : goal.returns
 returns c =
-    
-    
-    
-    
     let s = start (goal.at.returns c).After-whole_steps-steps in
     ran-made s.args.t (mode_of s.args.framed s.args.f) s.args.masks.now s.args.bytes.now s.args.s s.args.part.now _ _ c.whole_steps-steps.ensures c.refusal-why.ensures c.if-why-ne0.false (passing (goal.at.returns c).Else-why-ne0).fitting _ _ c.play.ensures

@@ -16,10 +16,10 @@ loop-i-init c = (search rules, every-none _)
 
 pub returns-then-not-bit_passes : goal.returns-then-not-bit_passes
 unfolding mask_ok
-returns-then-not-bit_passes c = sym (every_fails _ _ 32 (sym c.bit_passes.ensures ∙ c.if-not-bit_passes.true c.loop-i-test.true)
+returns-then-not-bit_passes c = sym (every_fails _ _ 32 (sym c.bit_passes.ensures ∙ c.if-not-bit_passes.true) c.loop-i-test.true)
 
 pub loop-i-preserved : goal.loop-i-preserved
-loop-i-preserved c = (search rules, every-next _ _ c.loop-i.invariant.1 (sym c.bit_passes.ensures ∙ c.if-not-bit_passes.false)
+loop-i-preserved c = (search rules, every-next _ _ c.loop-i.invariant.1 (sym c.bit_passes.ensures ∙ c.if-not-bit_passes.false))
 
 pub returns : goal.returns
 unfolding mask_ok

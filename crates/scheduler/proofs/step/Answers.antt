@@ -28,7 +28,7 @@ ready c = usable _ (sized c.before?Start) (lawful c)
 
 pub returns-then-not-legal : goal.returns-then-not-legal
 unfolding taken pick
-returns-then-not-legal c = rw (sym c.legal.ensures ∙ c.if-not-legal.true c.refuse.ensures
+returns-then-not-legal c = rw (sym c.legal.ensures ∙ c.if-not-legal.true) c.refuse.ensures
 
 pub prepare-p-requires : goal.prepare-p-requires
 prepare-p-requires c = (ready c).few

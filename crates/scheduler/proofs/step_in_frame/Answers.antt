@@ -35,11 +35,11 @@ passing c = sym c.frame_passes.ensures ∙ c.if-not-frame_passes.false
 
 pub returns-then-not-legal : goal.returns-then-not-legal
 unfolding taken pick
-returns-then-not-legal c = rw (sym c.legal.ensures ∙ c.if-not-legal.true c.refuse.ensures
+returns-then-not-legal c = rw (sym c.legal.ensures ∙ c.if-not-legal.true) c.refuse.ensures
 
 pub returns-then-not-frame_passes : goal.returns-then-not-frame_passes
 unfolding taken mode_ok pick
-returns-then-not-frame_passes c = rw (lawful (goal.at.returns-then-not-frame_passes c).Else-not-legal, sym c.frame_passes.ensures ∙ c.if-not-frame_passes.true c.refuse-then-not-frame_passes.ensures
+returns-then-not-frame_passes c = rw (lawful (goal.at.returns-then-not-frame_passes c).Else-not-legal, sym c.frame_passes.ensures ∙ c.if-not-frame_passes.true) c.refuse-then-not-frame_passes.ensures
 
 pub prepare-all-requires : goal.prepare-all-requires
 prepare-all-requires c = (ready (goal.at.prepare-all-requires c).Else-not-legal).few
@@ -53,9 +53,7 @@ narrow-p-requires c =
 
 pub step_over-requires : goal.step_over-requires
 step_over-requires c =
-    let t = c.args.t in
-    let p = c.prepare-all.ensures in
-    (ready (goal.at.step_over-requires c).Else-not-legal, (c.narrow-p.ensures.0, rw (c.narrow-p.ensures.1, p.1) (open_below t _ t.count (order t) (order_below t))))
+    (ready (goal.at.step_over-requires c).Else-not-legal, (c.narrow-p.ensures.0, rw (c.narrow-p.ensures.1, c.prepare-all.ensures.1) (open_below c.args.t _ c.args.t.count (order c.args.t) (order_below c.args.t))))
 
 pub returns : goal.returns
 unfolding taken step marks_at mode_ok threads_at pick

@@ -25,7 +25,7 @@ masked c = sym c.mask_passes.ensures ∙ c.if-not-mask_passes.false
 
 pub returns-then-not-fits : goal.returns-then-not-fits
 unfolding taken_then pick
-returns-then-not-fits c = rw (sym c.fits2.ensures ∙ c.if-not-fits.true c.refuse.ensures
+returns-then-not-fits c = rw (sym c.fits2.ensures ∙ c.if-not-fits.true) c.refuse.ensures
 
 pub returns-then-bytes-t : goal.returns-then-bytes-t
 unfolding taken_then pick
@@ -34,7 +34,7 @@ returns-then-bytes-t c = rw (fitting (goal.at.returns-then-bytes-t c).Else-not-f
 pub returns-then-not-mask_passes : goal.returns-then-not-mask_passes
 unfolding taken_then pick
 returns-then-not-mask_passes c =
-    rw (fitting (goal.at.returns-then-not-mask_passes c).Else-not-fits, eq-eqb _ _ c.if-bytes-t.false, sym c.mask_passes.ensures ∙ c.if-not-mask_passes.true
+    rw (fitting (goal.at.returns-then-not-mask_passes c).Else-not-fits, eq-eqb _ _ c.if-bytes-t.false, sym c.mask_passes.ensures ∙ c.if-not-mask_passes.true)
     c.refuse-then-not-mask_passes.ensures
 
 pub returns-then-s-ge1000000000 : goal.returns-then-s-ge1000000000
@@ -44,7 +44,6 @@ returns-then-s-ge1000000000 c =
 
 pub advance-w-requires : goal.advance-w-requires
 advance-w-requires c =
-    
     let f : Fits c.args.t c.args.s = fits_sound _ _ c.requires.0.few (long (goal.at.advance-w-requires c).Start) (fitting (goal.at.advance-w-requires c).Else-not-fits) in
     let e : length c.args.bytes.now ≡ c.args.t.count = c.if-bytes-t.false in
     (c.requires.0, ((c.requires.1.0, rw e c.requires.1.1), (f, c.if-s-ge1000000000.false, omega (arith, c.requires.0.few, e))))

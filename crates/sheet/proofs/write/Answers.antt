@@ -24,7 +24,7 @@ roomy : (c : Else-len-at-2) →
 roomy c = omega (arith, c.text_size-size.ensures, c.if-len-at-2.false, c.if-len-at.false)
 
 pub returns-then-not-legal : goal.returns-then-not-legal
-returns-then-not-legal c = told-bad _ _ _ (sym c.legal.ensures ∙ c.if-not-legal.true
+returns-then-not-legal c = told-bad _ _ _ (sym c.legal.ensures ∙ c.if-not-legal.true)
 
 pub text_size-size-requires : goal.text_size-size-requires
 text_size-size-requires c = let s = legal_small _ (passes c) in (s.0, s.1)

@@ -19,7 +19,7 @@ unfolding showing_state threads_shown pick
 returns-then-t-domain c = let l = sym c.legal.ensures ∙ c.if-not-legal.false in let f = sym c.fits2.ensures ∙ c.if-not-fits.false in let e = le-ltb _ _ c.if-t-domain.true in (rw (c.blind-then-t-domain.ensures.0, l, f, e), rw (l, f, e) c.blind-then-t-domain.ensures.1)
 
 pub seen_threads-requires : goal.seen_threads-requires
-seen_threads-requires c = (legal_small _ (sym c.legal.ensures ∙ c.if-not-legal.false).1
+seen_threads-requires c = (legal_small _ (sym c.legal.ensures ∙ c.if-not-legal.false)).1
 
 pub returns : goal.returns
 unfolding showing_state threads_shown pick

@@ -12,7 +12,7 @@ unfolding starting fresh_given pick
 returns-then-not-legal c = let e = sym c.legal.ensures ∙ c.if-not-legal.true in (rw e, rw e c.no_state.ensures)
 
 pub fresh_state-requires : goal.fresh_state-requires
-fresh_state-requires c = (legal_small _ (sym c.legal.ensures ∙ c.if-not-legal.false).1
+fresh_state-requires c = (legal_small _ (sym c.legal.ensures ∙ c.if-not-legal.false)).1
 
 pub returns : goal.returns
 unfolding starting fresh_given pick

@@ -12,7 +12,7 @@ unfolding marking marks_given pick
 returns-then-not-legal c = let e = sym c.legal.ensures ∙ c.if-not-legal.true in (rw e, rw (e, c.no_mark-none.ensures))
 
 pub mark_all-requires : goal.mark_all-requires
-mark_all-requires c = (legal_small _ (sym c.legal.ensures ∙ c.if-not-legal.false).1
+mark_all-requires c = (legal_small _ (sym c.legal.ensures ∙ c.if-not-legal.false)).1
 
 pub returns : goal.returns
 unfolding marking marks_given pick

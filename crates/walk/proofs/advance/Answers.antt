@@ -14,7 +14,7 @@ use borrow.Author.Rules.{rules}
 use Rattle.walk.proofs.advance.Goals as goal
 
 pub walk-w-requires : goal.walk-w-requires
-walk-w-requires c = let t = c.args.t in let k : Counted 999999999 (release t c.args.mask c.args.s) = record { at = λ i. omega (arith, ((release-fits t c.args.mask c.args.s c.requires.1.1.0).at i).ran_high, c.requires.1.1.1) } in (c.requires.1.0, (rw c.release-fresh.ensures k, c.requires.1.1.2))
+walk-w-requires c = let k : Counted 999999999 (release c.args.t c.args.mask c.args.s) = record { at = λ i. omega (arith, ((release-fits c.args.t c.args.mask c.args.s c.requires.1.1.0).at i).ran_high, c.requires.1.1.1) } in (c.requires.1.0, (rw c.release-fresh.ensures k, c.requires.1.1.2))
 
 pub tick-requires : goal.tick-requires
 tick-requires c = (rw (c.walk-w.ensures, walk_clock, c.release-fresh.ensures, release_clock) c.requires.1.1.1, c.requires.0.few)

@@ -36,12 +36,10 @@ module _ (a b : ℤ) (f : SFits w32 a) (g : SFits w32 b) (e : in_range a ≡ tru
 -- The branch's test, of the numbers themselves.
 below : (c : Then-a-b) → lt_z c.args.a c.args.b ≡ true
 below c =
-    
     plain (λ v. lt_z v c.args.b ≡ true) c.ranges.a (plain (λ v. lt_z (to_z w32 (of_z w32 c.args.a)) v ≡ true) c.ranges.b c.if-a-b.true)
 
 not_below : (c : Else-a-b) → lt_z c.args.a c.args.b ≡ false
 not_below c =
-    
     plain (λ v. lt_z v c.args.b ≡ false) c.ranges.a (plain (λ v. lt_z (to_z w32 (of_z w32 c.args.a)) v ≡ false) c.ranges.b c.if-a-b.false)
 
 pub overflow_sub-result : goal.overflow_sub-result
@@ -51,13 +49,11 @@ overflow_sub-result c = fits c.args.b c.args.a c.ranges.b c.ranges.a c.requires.
 pub overflow_cast-result : goal.overflow_cast-result
 unfolding read
 overflow_cast-result c =
-    
     casts c.args.b c.args.a c.ranges.b c.ranges.a c.requires.1 c.requires.0 (less_not_more c.args.a c.args.b (below c))
 
 pub returns-then-a-b : goal.returns-then-a-b
 unfolding read
 returns-then-a-b c =
-    
     far c.args.b c.args.a c.ranges.b c.ranges.a c.requires.1 c.requires.0 ∙ distance-turns c.args.b c.args.a c.requires.1 c.requires.0
 
 pub overflow_sub-result-2 : goal.overflow_sub-result-2

@@ -20,7 +20,7 @@ high : (c : Else-x-gt95000) → lt_z (pos 95000) c.args.x ≡ false
 high c = plain (λ z. lt_z (pos 95000) z ≡ false) c.ranges.x c.if-x-gt95000.false
 
 narrow : (c : Else-x-gt95000) → SFits w32 c.args.x
-narrow c = let x = c.args.x in in_fits (not_below x (low c.before?Else-x-ltminus5000) ∙ most_not_less (pos 95000) x ∙ rw (high c))
+narrow c = in_fits (not_below c.args.x (low c.before?Else-x-ltminus5000) ∙ most_not_less (pos 95000) c.args.x ∙ rw (high c))
 
 pub returns-then-x-ltminus5000 : goal.returns-then-x-ltminus5000
 unfolding drawn pick
@@ -36,5 +36,4 @@ overflow_cast-result c = read_back (SFits w32) c.ranges.x (narrow c)
 pub returns : goal.returns
 unfolding drawn pick
 returns c =
-    
     ap (λ z. to_z w32 (of_z w32 z)) (to_z-of_z w64 c.args.x c.ranges.x) ∙ to_z-of_z w32 c.args.x (narrow c) ∙ rw (low (goal.at.returns c).Else-x-ltminus5000, high c)

@@ -25,14 +25,12 @@ returns-then-a-gt1000 c =
 pub returns-then-not-is_in_range : goal.returns-then-not-is_in_range
 unfolding ranged
 returns-then-not-is_in_range c =
-    let a = c.args.a in
     rw
-    (le-leb 1 a.rate c.if-a-lt1.false, le-leb a.rate 1000 c.if-a-gt1000.false, sym (place (goal.at.returns-then-not-is_in_range c).After-is_in_range) ∙ c.if-not-is_in_range.true
+    (le-leb 1 c.args.a.rate c.if-a-lt1.false, le-leb c.args.a.rate 1000 c.if-a-gt1000.false, sym (place (goal.at.returns-then-not-is_in_range c).After-is_in_range) ∙ c.if-not-is_in_range.true)
 
 pub returns : goal.returns
 unfolding ranged
 returns c =
-    let a = c.args.a in
     rw
-    (le-leb 1 a.rate c.if-a-lt1.false, le-leb a.rate 1000 c.if-a-gt1000.false, sym (place (goal.at.returns c).After-is_in_range) ∙ c.if-not-is_in_range.false
-    (c.is_in_range-2.ensures ∙ ap in_range (to_z-of_z w32 a.command (record { sfits = c.struct_told-2-1.given.1.0.1 })))
+    (le-leb 1 c.args.a.rate c.if-a-lt1.false, le-leb c.args.a.rate 1000 c.if-a-gt1000.false, sym (place (goal.at.returns c).After-is_in_range) ∙ c.if-not-is_in_range.false)
+    (c.is_in_range-2.ensures ∙ ap in_range (to_z-of_z w32 c.args.a.command (record { sfits = c.struct_told-2-1.given.1.0.1 })))

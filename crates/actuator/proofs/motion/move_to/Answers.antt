@@ -23,9 +23,7 @@ moved-requires c =
 pub returns : goal.returns
 unfolding moved_to
 returns c =
-    
-    let a = c.args.a in
-    let f : SFits w32 a.position = record { sfits = c.struct_told-1.given.0.1 } in
+    let f : SFits w32 c.args.a.position = record { sfits = c.struct_told-1.given.0.1 } in
     let e = to_z-of_z w32 c.args.command c.ranges.command in
-    let p = to_z-of_z w32 c.moved.result (record { sfits = c.moved.type-inv }) ∙ c.moved.ensures ∙ ap₂ (moved a.rate) (to_z-of_z w32 a.position f) e in
-    λ k. record { position = p k; command = e k; rate = a.rate; thread = a.thread }
+    let p = to_z-of_z w32 c.moved.result (record { sfits = c.moved.type-inv }) ∙ c.moved.ensures ∙ ap₂ (moved c.args.a.rate) (to_z-of_z w32 c.args.a.position f) e in
+    λ k. record { position = p k; command = e k; rate = c.args.a.rate; thread = c.args.a.thread }

@@ -20,25 +20,21 @@ use Rattle.actuator.proofs.motion.moved.Goals.{After-smaller-way, Else-p-c, Then
 way-is : (c : After-smaller-way) → c.smaller-way.result ≡ way c.args.rate c.args.p c.args.c
 unfolding way
 way-is c =
-    
     c.smaller-way.ensures ∙ ap (min c.args.rate) (c.distance.ensures ∙ ap₂ distance (to_z-of_z w32 c.args.p c.ranges.p) (to_z-of_z w32 c.args.c c.ranges.c))
 
 short : (c : After-smaller-way) → SFits w32 (pos c.smaller-way.result)
 short c =
-    
     rw (way-is c) (record { sfits = lt_of_le_of_lt (way_high c.args.rate c.args.p c.args.c c.requires.0 c.requires.1) (lit< tt) })
 
 -- What the machine adds, and what it takes away.
 added : (c : After-smaller-way) → to_z w32 (of_z w32 c.args.p) +ℤ to_z w32 c.smaller-way.result
     ≡ c.args.p +ℤ pos (way c.args.rate c.args.p c.args.c)
 added c =
-    
     ap₂ ◌+ℤ◌ (to_z-of_z w32 c.args.p c.ranges.p) (to_z-of_z w32 (pos c.smaller-way.result) (short c) ∙ ap pos (way-is c))
 
 taken-off : (c : After-smaller-way) → to_z w32 (of_z w32 c.args.p) -ℤ to_z w32 c.smaller-way.result
     ≡ c.args.p -ℤ pos (way c.args.rate c.args.p c.args.c)
 taken-off c =
-    
     ap₂ ◌-ℤ◌ (to_z-of_z w32 c.args.p c.ranges.p) (to_z-of_z w32 (pos c.smaller-way.result) (short c) ∙ ap pos (way-is c))
 
 -- Which way it goes.
@@ -46,7 +42,6 @@ up : (c : Then-p-c) → to_z w32 (of_z w32 c.args.p) +ℤ to_z w32 c.smaller-way
     ≡ moved c.args.rate c.args.p c.args.c
 unfolding moved towards pick
 up c =
-    
     let e : lt_z c.args.p c.args.c ≡ true =
     plain (λ v. lt_z v c.args.c ≡ true) c.ranges.p (plain (λ v. lt_z (to_z w32 (of_z w32 c.args.p)) v ≡ true) c.ranges.c c.if-p-c.true) in
     added c.before?After-smaller-way ∙ rw e
@@ -55,7 +50,6 @@ down : (c : Else-p-c) → to_z w32 (of_z w32 c.args.p) -ℤ to_z w32 c.smaller-w
     ≡ moved c.args.rate c.args.p c.args.c
 unfolding moved towards pick
 down c =
-    
     let e : lt_z c.args.p c.args.c ≡ false =
     plain (λ v. lt_z v c.args.c ≡ false) c.ranges.p (plain (λ v. lt_z (to_z w32 (of_z w32 c.args.p)) v ≡ false) c.ranges.c c.if-p-c.false) in
     taken-off c.before?After-smaller-way ∙ rw e

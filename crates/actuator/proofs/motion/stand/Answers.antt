@@ -11,7 +11,6 @@ use Rattle.actuator.proofs.motion.stand.Goals as goal
 pub returns-then-has_run : goal.returns-then-has_run
 unfolding commanded pick
 returns-then-has_run c =
-    
     rw (sym c.has_run.ensures ∙ c.if-has_run.true)
     (to_z-of_z w32 _ (record { sfits = c.draw.type-inv }) ∙ c.draw.ensures ∙ ap drawn (to_z-of_z w64 c.args.command c.ranges.command))
 

@@ -24,35 +24,27 @@ find_bound-search-requires c = (c.requires, omega arith)
 pub returns-in_default : goal.returns-in_default
 unfolding first_without counts_of
 returns-in_default c =
-    
-    let l = c.loop-i in
-    let f = c.find_bound-search.ensures in
-    let b : bound c.args.t l.i ≡ nothing = sym f.0 ∙ ap sought c.in_default.is in
-    let e : first_without c.args.t ≡ found l.i
-    = first_hit (without_bound c.args.t) l.i c.args.t.count l.i l.invariant.1 (has_none c.args.t l.i b) c.loop-i-test.true in
-    let n = searched_with c.args.t l.i e in
-    (rw e, rw e, rw (n, l.invariant.3, f.1) (rw (add-one l.i) at (listed_next (the-tried c.args.t) 0 l.i 32 (omega arith))))
+    let b : bound c.args.t c.loop-i.i ≡ nothing = sym c.find_bound-search.ensures.0 ∙ ap sought c.in_default.is in
+    let e : first_without c.args.t ≡ found c.loop-i.i
+    = first_hit (without_bound c.args.t) c.loop-i.i c.args.t.count c.loop-i.i c.loop-i.invariant.1 (has_none c.args.t c.loop-i.i b) c.loop-i-test.true in
+    let n = searched_with c.args.t c.loop-i.i e in
+    (rw e, rw e, rw (n, c.loop-i.invariant.3, c.find_bound-search.ensures.1) (rw (add-one c.loop-i.i) at (listed_next (the-tried c.args.t) 0 c.loop-i.i 32 (omega arith))))
 
 pub loop-i-preserved : goal.loop-i-preserved
 loop-i-preserved c =
-    
-    let l = c.loop-i in
-    let f = c.find_bound-search.ensures in
-    let b : bound c.args.t l.i ≡ found c.in-At.x
-    = sym f.0 ∙ ap sought c.in-At.is in (
+    let b : bound c.args.t c.loop-i.i ≡ found c.in-At.x
+    = sym c.find_bound-search.ensures.0 ∙ ap sought c.in-At.is in (
       search rules,
-      first_next (without_bound c.args.t) l.i l.invariant.1 (has_one c.args.t l.i _ b),
-      rw (l.invariant.2, number_is c.args.t l.i _ b) (listed_next (bound_number c.args.t) 0 l.i 32 (omega arith)),
-      rw (l.invariant.3, f.1) (listed_next (the-tried c.args.t) 0 l.i 32 (omega arith)),
+      first_next (without_bound c.args.t) c.loop-i.i c.loop-i.invariant.1 (has_one c.args.t c.loop-i.i _ b),
+      rw (c.loop-i.invariant.2, number_is c.args.t c.loop-i.i _ b) (listed_next (bound_number c.args.t) 0 c.loop-i.i 32 (omega arith)),
+      rw (c.loop-i.invariant.3, c.find_bound-search.ensures.1) (listed_next (the-tried c.args.t) 0 c.loop-i.i 32 (omega arith)),
     )
 
 pub returns : goal.returns
 unfolding first_without bounds_of counts_of
 returns c =
-    
-    let l = c.loop-i in
     let e : first_without c.args.t ≡ nothing
-    = first_end (without_bound c.args.t) l.i c.args.t.count l.invariant.1 l.invariant.0 c.loop-i-test.false in
-    let q = le_antisymm l.invariant.0 c.loop-i-test.false in
+    = first_end (without_bound c.args.t) c.loop-i.i c.args.t.count c.loop-i.invariant.1 c.loop-i.invariant.0 c.loop-i-test.false in
+    let q = le_antisymm c.loop-i.invariant.0 c.loop-i-test.false in
     let n = searched-all c.args.t e in
-    (rw e, rw e (rw q at l.invariant.2), rw n (rw q at l.invariant.3))
+    (rw e, rw e (rw q at c.loop-i.invariant.2), rw n (rw q at c.loop-i.invariant.3))

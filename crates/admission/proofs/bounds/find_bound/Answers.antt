@@ -28,38 +28,27 @@ demand-next-requires c = (c.requires.0, c.requires.1, search rules)
 
 pub returns-then-next-x : goal.returns-then-next-x
 returns-then-next-x c =
-    
-    let l = c.loop-x in
-    let t = c.args.t in
-    let i = c.args.i in
-    let m : ℕ = (thread t i).deadline - (thread t i).budget + 1 - l.tried in
-    let d : demand t i l.x ≤ l.x = omega (arith, c.demand-next.ensures) in (
-      sym (bound_at t i l.x (record { from_budget = omega arith; to_deadline = omega arith; holds = d; smallest = l.invariant.2 })),
-      omega (arith, l.invariant.0, left-last t i m (m - 1) l.x (omega arith) (omega arith) d),
+    let m : ℕ = (thread c.args.t c.args.i).deadline - (thread c.args.t c.args.i).budget + 1 - c.loop-x.tried in
+    let d : demand c.args.t c.args.i c.loop-x.x ≤ c.loop-x.x = omega (arith, c.demand-next.ensures) in (
+      sym (bound_at c.args.t c.args.i c.loop-x.x (record { from_budget = omega arith; to_deadline = omega arith; holds = d; smallest = c.loop-x.invariant.2 })),
+      omega (arith, c.loop-x.invariant.0, left-last c.args.t c.args.i m (m - 1) c.loop-x.x (omega arith) (omega arith) d),
     )
 
 pub loop-x-preserved : goal.loop-x-preserved
 loop-x-preserved c =
-    
-    let l = c.loop-x in
-    let t = c.args.t in
-    let i = c.args.i in
-    let n : ℕ = (thread t i).deadline - (thread t i).budget + 1 - (l.tried + 1) in
-    let d : l.x < demand t i l.x = omega (arith, c.demand-next.ensures) in
-    let e = left-next t i ((thread t i).deadline - (thread t i).budget + 1 - l.tried) n l.x (omega arith) (omega arith) d in (
-      rw c.demand-next.ensures (omega (arith, l.invariant.0, e)),
+    let n : ℕ = (thread c.args.t c.args.i).deadline - (thread c.args.t c.args.i).budget + 1 - (c.loop-x.tried + 1) in
+    let d : c.loop-x.x < demand c.args.t c.args.i c.loop-x.x = omega (arith, c.demand-next.ensures) in
+    let e = left-next c.args.t c.args.i ((thread c.args.t c.args.i).deadline - (thread c.args.t c.args.i).budget + 1 - c.loop-x.tried) n c.loop-x.x (omega arith) (omega arith) d in (
+      rw c.demand-next.ensures (omega (arith, c.loop-x.invariant.0, e)),
       omega arith,
-      rw c.demand-next.ensures (short-next t i c.requires.0 l.x l.invariant.2),
-      l.invariant.3,
-      l.invariant.4,
+      rw c.demand-next.ensures (short-next c.args.t c.args.i c.requires.0 c.loop-x.x c.loop-x.invariant.2),
+      c.loop-x.invariant.3,
+      c.loop-x.invariant.4,
     )
 
 pub returns : goal.returns
 returns c =
-    
-    let l = c.loop-x in
-    let t = c.args.t in
-    let i = c.args.i in (
-      sym (bound-none t i (record { short = λ y a b. l.invariant.2 y a (omega arith) })),
-      omega (arith, l.invariant.0, left-none t i ((thread t i).deadline - (thread t i).budget + 1 - l.tried) l.x c.loop-x-test.false),
+    (
+      sym (bound-none c.args.t c.args.i (record { short = λ y a b. c.loop-x.invariant.2 y a (omega arith) })),
+      omega (arith, c.loop-x.invariant.0, left-none c.args.t c.args.i ((thread c.args.t c.args.i).deadline - (thread c.args.t c.args.i).budget + 1 - c.loop-x.tried) c.loop-x.x c.loop-x-test.false),
     )

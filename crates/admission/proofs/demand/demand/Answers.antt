@@ -18,19 +18,15 @@ share-sum-requires c = (c.requires.0.threads _ c.loop-h-test.true).period_low
 
 pub overflow_add-sum : goal.overflow_add-sum
 overflow_add-sum c =
-    
-    let l = c.loop-h in
     let own = thread c.args.t c.args.i in
     let f : ℕ → ℕ = λ k. share own c.args.x (thread c.args.t k) in
-    omega (arith, demand_partial c.args.t c.requires.0 c.args.i c.args.x (l.h + 1) c.requires.1 c.requires.2 (omega arith), sum-next f l.h, l.invariant.1, c.share-sum.ensures)
+    omega (arith, demand_partial c.args.t c.requires.0 c.args.i c.args.x (c.loop-h.h + 1) c.requires.1 c.requires.2 (omega arith), sum-next f c.loop-h.h, c.loop-h.invariant.1, c.share-sum.ensures)
 
 pub loop-h-preserved : goal.loop-h-preserved
 loop-h-preserved c =
-    
-    let l = c.loop-h in
     let own = thread c.args.t c.args.i in
     let f : ℕ → ℕ = λ k. share own c.args.x (thread c.args.t k) in
-    (search rules, omega (arith, sum-next f l.h, l.invariant.1, c.share-sum.ensures))
+    (search rules, omega (arith, sum-next f c.loop-h.h, c.loop-h.invariant.1, c.share-sum.ensures))
 
 pub returns : goal.returns
 unfolding demand

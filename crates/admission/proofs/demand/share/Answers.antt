@@ -7,13 +7,11 @@ use Rattle.admission.proofs.demand.share.Goals as goal
 
 pub returns-then-h-own : goal.returns-then-h-own
 returns-then-h-own c =
-    let a = c.args in
-    sym (share_other a.own a.h a.x (omega arith))
+    sym (share_other c.args.own c.args.h c.args.x (omega arith))
 
 pub overflow_mul-result : goal.overflow_mul-result
 overflow_mul-result c = record { fits = rw c.rounded_up.ensures (product_fits _ _ _ (omega arith) (omega arith) (omega arith)) }
 
 pub returns : goal.returns
 returns c =
-    let a = c.args in
-    rw c.rounded_up.ensures (sym (share-above a.own a.h a.x (omega arith)))
+    rw c.rounded_up.ensures (sym (share-above c.args.own c.args.h c.args.x (omega arith)))

@@ -22,32 +22,25 @@ loop-h-init c = (search rules, omega arith)
 
 pub stretch-sum-requires : goal.stretch-sum-requires
 stretch-sum-requires c =
-    
     ((c.requires.0.threads _ c.requires.1).period_low, (c.requires.0.threads _ c.loop-h-test.true).period_low)
 
 -- What the thread at hand brings, by the table's own mark.
 brought : (c : After-stretch-sum) → 
     c.stretch-sum.result ≡ stretch (thread c.args.t c.args.l) (marked c.args.t c.loop-h.h) (thread c.args.t c.loop-h.h)
 brought c =
-    
-    let h = c.loop-h.h in
     c.stretch-sum.ensures
-    ∙ ap (λ (m : Bool). stretch (thread c.args.t c.args.l) m (thread c.args.t h))
-    (ap (λ (ms : List Mark). is_set ms h) c.mark_all-marks.ensures ∙ set_exactly c.args.t h c.loop-h-test.true)
+    ∙ ap (λ (m : Bool). stretch (thread c.args.t c.args.l) m (thread c.args.t c.loop-h.h))
+    (ap (λ (ms : List Mark). is_set ms c.loop-h.h) c.mark_all-marks.ensures ∙ set_exactly c.args.t c.loop-h.h c.loop-h-test.true)
 
 pub overflow_add-sum : goal.overflow_add-sum
 overflow_add-sum c =
-    
-    let l = c.loop-h in
     let f : ℕ → ℕ = λ k. stretch (thread c.args.t c.args.l) (marked c.args.t k) (thread c.args.t k) in
-    omega (arith, prohibition_partial c.args.t c.requires.0 c.args.l (l.h + 1) c.requires.1 (omega arith), sum-next f l.h, l.invariant.1, brought c)
+    omega (arith, prohibition_partial c.args.t c.requires.0 c.args.l (c.loop-h.h + 1) c.requires.1 (omega arith), sum-next f c.loop-h.h, c.loop-h.invariant.1, brought c)
 
 pub loop-h-preserved : goal.loop-h-preserved
 loop-h-preserved c =
-    
-    let l = c.loop-h in
     let f : ℕ → ℕ = λ k. stretch (thread c.args.t c.args.l) (marked c.args.t k) (thread c.args.t k) in
-    (search rules, omega (arith, sum-next f l.h, l.invariant.1, brought c))
+    (search rules, omega (arith, sum-next f c.loop-h.h, c.loop-h.invariant.1, brought c))
 
 pub returns : goal.returns
 unfolding prohibition

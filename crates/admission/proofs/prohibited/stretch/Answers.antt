@@ -7,17 +7,15 @@ use borrow.Author.Rules.{rules}
 use Rattle.admission.proofs.prohibited.stretch.Goals as goal
 
 pub returns-then-not-marked : goal.returns-then-not-marked
-returns-then-not-marked c = sym (stretch_unmarked _ _ _ (c.if-not-marked.true)
+returns-then-not-marked c = sym (stretch_unmarked _ _ _ (c.if-not-marked.true))
 
 pub returns-then-h-own : goal.returns-then-h-own
 returns-then-h-own c =
-    let a = c.args in
-    sym (stretch_other a.own a.h a.marked (omega arith))
+    sym (stretch_other c.args.own c.args.h c.args.marked (omega arith))
 
 pub overflow_mul-result : goal.overflow_mul-result
 overflow_mul-result c = record { fits = rw c.rounded_up.ensures (product_fits _ _ _ (omega arith) (omega arith) (omega arith)) }
 
 pub returns : goal.returns
 returns c =
-    let a = c.args in
-    rw c.rounded_up.ensures (sym (stretch-above a.own a.h a.marked (c.if-not-marked.false (omega arith)))
+    rw c.rounded_up.ensures (sym (stretch-above c.args.own c.args.h c.args.marked (c.if-not-marked.false) (omega arith)))

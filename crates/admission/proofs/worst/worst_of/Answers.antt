@@ -22,16 +22,12 @@ overflow_sub-sum c =
 pub overflow_add-sum-in-loop-i : goal.overflow_add-sum-in-loop-i
 unfolding most_tried
 overflow_add-sum-in-loop-i c =
-    
-    let l = c.loop-i in
-    omega (arith, worst_partial c.args.t c.requires (l.i + 1) (omega arith), sum-next (most_tried c.args.t) l.i, l.invariant.1)
+    omega (arith, worst_partial c.args.t c.requires (c.loop-i.i + 1) (omega arith), sum-next (most_tried c.args.t) c.loop-i.i, c.loop-i.invariant.1)
 
 pub loop-i-preserved : goal.loop-i-preserved
 unfolding most_tried
 loop-i-preserved c =
-    
-    let l = c.loop-i in
-    (search rules, omega (arith, sum-next (most_tried c.args.t) l.i, l.invariant.1))
+    (search rules, omega (arith, sum-next (most_tried c.args.t) c.loop-i.i, c.loop-i.invariant.1))
 
 pub returns : goal.returns
 unfolding worst

@@ -18,7 +18,6 @@ slice_bounds-play-end-2 c = sym (length-take-le _ _ (omega (arith, ?LOST?c.befor
 
 pub play-p-requires : goal.play-p-requires
 play-p-requires c =
-    
     let e = length-take-le (?LOST?c.before.before.before.before.before.args.n - ?LOST?c.before.before.before.before.before.args.n % ?LOST?c.before.before.before.before.before.args.t.count) ?LOST?c.before.before.before.before.before.args.steps.now (omega (arith, ?LOST?c.before.before.before.before.before.requires.3)) in
     (?LOST?c.before.before.before.before.before.requires.0, ?LOST?c.before.before.before.before.before.requires.1, record { few = omega (arith, e, ?LOST?c.before.before.before.before.before.requires.2); fits = omega (arith, ?LOST?c.before.before.before.before.before.requires.4) })
 
@@ -27,15 +26,11 @@ carry-requires c = omega (arith, rest-within ?LOST?c.before.before.before.before
 
 pub returns-then-p-ne0 : goal.returns-then-p-ne0
 returns-then-p-ne0 c =
-    
-    let p = c.play-p.ensures in
-    (p.1, mod-lt ?LOST?c.before.before.before.before.before.before.before.before.before.before.before.before.before.before.before.before.before.before.before.args.n ?LOST?c.before.before.before.before.before.before.before.before.before.before.before.before.before.before.before.before.before.before.before.requires.0.count_low, record { state = p.2.state; have = refl; rest = c.carry.ensures })
+    (c.play-p.ensures.1, mod-lt ?LOST?c.before.before.before.before.before.before.before.before.before.before.before.before.before.before.before.before.before.before.before.args.n ?LOST?c.before.before.before.before.before.before.before.before.before.before.before.before.before.before.before.before.before.before.before.requires.0.count_low, record { state = c.play-p.ensures.2.state; have = refl; rest = c.carry.ensures })
 
 pub slice_bounds-say-end-2 : goal.slice_bounds-say-end-2
 slice_bounds-say-end-2 c = sym (length-take-le _ _ c.play.ensures.0)
 
 pub returns : goal.returns
 returns c =
-    
-    let p = c.play.ensures in
-    (p.1, mod-lt ?LOST?c.before.before.before.before.before.before.before.before.before.before.before.before.before.before.before.before.before.args.n ?LOST?c.before.before.before.before.before.before.before.before.before.before.before.before.before.before.before.before.before.requires.0.count_low, record { state = p.2.state; have = refl; rest = c.carry.ensures })
+    (c.play.ensures.1, mod-lt ?LOST?c.before.before.before.before.before.before.before.before.before.before.before.before.before.before.before.before.before.args.n ?LOST?c.before.before.before.before.before.before.before.before.before.before.before.before.before.before.before.before.before.requires.0.count_low, record { state = c.play.ensures.2.state; have = refl; rest = c.carry.ensures })

@@ -12,18 +12,14 @@ loop-i-init c = (omega arith, refl, refl, refl)
 
 pub loop-i-preserved : goal.loop-i-preserved
 loop-i-preserved c =
-    
-    let l = c.loop-i in
-    let i = l.invariant in
-    let inside : c.args.from + l.i < length c.args.steps.now = omega (arith, c.requires, c.loop-i-test.true) in (
+    let inside : c.args.from + c.loop-i.i < length c.args.steps.now = omega (arith, c.requires, c.loop-i-test.true) in (
       omega (arith, c.loop-i-test.true),
-      length-set l.steps l.i _ ∙ i.1,
-      carried l.steps c.args.steps.now c.args.from l.i i.1 inside i.2 i.3,
-      carried_rest l.steps c.args.steps.now c.args.from l.i i.1 inside i.2 i.3 _,
+      length-set c.loop-i.steps c.loop-i.i _ ∙ c.loop-i.invariant.1,
+      carried c.loop-i.steps c.args.steps.now c.args.from c.loop-i.i c.loop-i.invariant.1 inside c.loop-i.invariant.2 c.loop-i.invariant.3,
+      carried_rest c.loop-i.steps c.args.steps.now c.args.from c.loop-i.i c.loop-i.invariant.1 inside c.loop-i.invariant.2 c.loop-i.invariant.3 _,
     )
 
 pub returns : goal.returns
 returns c =
-    let l = c.loop-i in
-    let e : l.i ≡ c.args.n = omega (arith, l.invariant.0, c.loop-i-test.false) in
-    rw e at l.invariant.2
+    let e : c.loop-i.i ≡ c.args.n = omega (arith, c.loop-i.invariant.0, c.loop-i-test.false) in
+    rw e at c.loop-i.invariant.2

@@ -15,9 +15,7 @@ use Rattle.bench.proofs.turn.take_turn.Goals.{After-read_on-got}
 kept : (c : After-read_on-got) → 
     take c.args.have (c.read_on-got.new.1.0 ++ drop (4000 * c.args.t.count) c.args.steps.now) ≡ take c.args.have c.args.steps.now
 kept c =
-    
-    let r = c.read_on-got in
-    take-append-le c.args.have r.new.1.0 _ (omega (arith, r.ensures.0, r.ensures.1)) ∙ r.ensures.2
+    take-append-le c.args.have c.read_on-got.new.1.0 _ (omega (arith, c.read_on-got.ensures.0, c.read_on-got.ensures.1)) ∙ c.read_on-got.ensures.2
     ∙ take-take c.args.have (4000 * c.args.t.count) c.args.steps.now (omega (arith, c.requires.2))
 
 pub slice_bounds-read_on-end-2 : goal.slice_bounds-read_on-end-2
@@ -25,35 +23,28 @@ slice_bounds-read_on-end-2 c = sym (length-take-le _ _ (omega (arith, c.requires
 
 pub read_on-got-requires : goal.read_on-got-requires
 read_on-got-requires c =
-    
     omega (arith, length-take-le (4000 * c.args.t.count) c.args.steps.now (omega (arith, c.requires.0.count_high, c.requires.3)), c.requires.2)
 
 pub returns-then-n-have : goal.returns-then-n-have
 returns-then-n-have c =
-    
     (?LOST?c.before.before.before.before.before.before.before.before.before.before.before.before.before.requires.1, ?LOST?c.before.before.before.before.before.before.before.before.before.before.before.before.before.requires.2, turned_none ?LOST?c.before.before.before.before.before.before.before.before.before.before.before.before.before.args.t ?LOST?c.before.before.before.before.before.before.before.before.before.before.before.before.before.args.s ?LOST?c.before.before.before.before.before.before.before.before.before.before.before.before.before.args.have ?LOST?c.before.before.before.before.before.before.before.before.before.before.before.before.before.args.steps.now _ _ ?LOST?c.before.before.before.before.before.before.before.before.before.before.before.before.before.requires.2 (kept (goal.at.returns-then-n-have c).After-read_on-arg-1))
 
 pub answer_whole-requires : goal.answer_whole-requires
 answer_whole-requires c =
-    
-    let r = c.read_on-got in
-    let w : length r.new.1.0 ≡ 4000 * c.args.t.count =
-    r.auto.1.0 ∙ length-take-le _ _ (omega (arith, c.requires.0.count_high, c.requires.3)) in (
+    let w : length c.read_on-got.new.1.0 ≡ 4000 * c.args.t.count =
+    c.read_on-got.auto.1.0 ∙ length-take-le _ _ (omega (arith, c.requires.0.count_high, c.requires.3)) in (
       c.requires.0,
       c.requires.1,
-      omega (arith, r.ensures.0, w),
-      omega (arith, r.ensures.0, length-append r.new.1.0 (drop (4000 * c.args.t.count) c.args.steps.now)),
+      omega (arith, c.read_on-got.ensures.0, w),
+      omega (arith, c.read_on-got.ensures.0, length-append c.read_on-got.new.1.0 (drop (4000 * c.args.t.count) c.args.steps.now)),
       c.requires.4,
     )
 
 pub returns : goal.returns
 returns c =
-    
-    let r = c.read_on-got in
-    let a = c.answer_whole.ensures in
-    let n = length-append r.new.1.0 (drop (4000 * c.args.t.count) c.args.steps.now) in (
-      a.0,
-      a.1,
-      turned-some c.args.t c.args.s c.args.have r.result.count c.args.steps.now _ _ _ r.ensures.1 (omega (arith, r.ensures.0, n)) (kept (goal.at.returns c).After-read_on-got)
-          (omega (arith, a.2.have, div-add-mod' r.result.count c.args.t.count)) a.2,
+    let n = length-append c.read_on-got.new.1.0 (drop (4000 * c.args.t.count) c.args.steps.now) in (
+      c.answer_whole.ensures.0,
+      c.answer_whole.ensures.1,
+      turned-some c.args.t c.args.s c.args.have c.read_on-got.result.count c.args.steps.now _ _ _ c.read_on-got.ensures.1 (omega (arith, c.read_on-got.ensures.0, n)) (kept (goal.at.returns c).After-read_on-got)
+          (omega (arith, c.answer_whole.ensures.2.have, div-add-mod' c.read_on-got.result.count c.args.t.count)) c.answer_whole.ensures.2,
     )

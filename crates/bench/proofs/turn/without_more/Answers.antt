@@ -10,6 +10,5 @@ slice_bounds-play-end c = sym (length-take-le _ _ (omega (arith, ?LOST?c.before.
 
 pub play-p-requires : goal.play-p-requires
 play-p-requires c =
-    
     let n = length-take-le ?LOST?c.before.before.before.before.before.before.before.args.got.count ?LOST?c.before.before.before.before.before.before.before.args.steps.now (omega (arith, ?LOST?c.before.before.before.before.before.before.before.requires.2, ?LOST?c.before.before.before.before.before.before.before.requires.3)) in
     (?LOST?c.before.before.before.before.before.before.before.requires.0, ?LOST?c.before.before.before.before.before.before.before.requires.1, record { few = omega (arith, n, ?LOST?c.before.before.before.before.before.before.before.requires.2); fits = omega (arith, ?LOST?c.before.before.before.before.before.before.before.requires.4) })

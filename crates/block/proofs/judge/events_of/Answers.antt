@@ -25,7 +25,6 @@ loop-i-preserved c = (search rules, events-next _ c.loop-i.i c.args.t.count _ _ 
 
 pub returns : goal.returns
 returns c =
-    let t = c.args.t in
     let z : c.loop-i.i ≡ 0 = omega (arith, c.loop-i-test.false) in
-    let y : t.count - 0 ≡ t.count = omega arith in
-    c.loop-i.invariant.1 ∙ ap (λ (i : ℕ). events t i (t.count - i)) z ∙ ap (λ (n : ℕ). events t 0 n) y
+    let y : c.args.t.count - 0 ≡ c.args.t.count = omega arith in
+    c.loop-i.invariant.1 ∙ ap (λ (i : ℕ). events c.args.t i (c.args.t.count - i)) z ∙ ap (λ (n : ℕ). events c.args.t 0 n) y

@@ -20,10 +20,10 @@ loop-k-preserved-then-mask-all c = (search rules, every-next _ _ c.loop-k.invari
 
 pub returns-then-not-mask_passes : goal.returns-then-not-mask_passes
 unfolding masks_ok
-returns-then-not-mask_passes c = sym (every_fails _ _ _ (sym c.mask_passes.ensures ∙ c.if-not-mask_passes.true c.loop-k-test.true)
+returns-then-not-mask_passes c = sym (every_fails _ _ _ (sym c.mask_passes.ensures ∙ c.if-not-mask_passes.true) c.loop-k-test.true)
 
 pub loop-k-preserved : goal.loop-k-preserved
-loop-k-preserved c = (search rules, every-next _ _ c.loop-k.invariant.1 (sym c.mask_passes.ensures ∙ c.if-not-mask_passes.false, c.loop-k.invariant.2)
+loop-k-preserved c = (search rules, every-next _ _ c.loop-k.invariant.1 (sym c.mask_passes.ensures ∙ c.if-not-mask_passes.false), c.loop-k.invariant.2)
 
 pub returns : goal.returns
 unfolding masks_ok

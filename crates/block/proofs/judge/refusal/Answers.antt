@@ -43,7 +43,7 @@ tight c = lt-leb (length c.args.masks.now) c.args.room (omega (arith, c.if-room-
 
 pub returns-then-not-fits : goal.returns-then-not-fits
 unfolding refusal_then pick
-returns-then-not-fits c = rw (sym c.fits2.ensures ∙ c.if-not-fits.true
+returns-then-not-fits c = rw (sym c.fits2.ensures ∙ c.if-not-fits.true)
 
 pub returns-then-not-is_whole : goal.returns-then-not-is_whole
 unfolding refusal_then pick
@@ -51,7 +51,7 @@ returns-then-not-is_whole c = rw (fitting (goal.at.returns-then-not-is_whole c).
 
 pub returns-then-not-masks_pass : goal.returns-then-not-masks_pass
 unfolding refusal_then pick
-returns-then-not-masks_pass c = rw (fitting (goal.at.returns-then-not-masks_pass c).Else-not-fits, unbroken (goal.at.returns-then-not-masks_pass c).Else-not-is_whole, sym c.masks_pass.ensures ∙ c.if-not-masks_pass.true
+returns-then-not-masks_pass c = rw (fitting (goal.at.returns-then-not-masks_pass c).Else-not-fits, unbroken (goal.at.returns-then-not-masks_pass c).Else-not-is_whole, sym c.masks_pass.ensures ∙ c.if-not-masks_pass.true)
 
 pub overflow_sub-left : goal.overflow_sub-left
 overflow_sub-left c = omega (arith, early (goal.at.overflow_sub-left c).Else-not-masks_pass)
@@ -59,17 +59,14 @@ overflow_sub-left c = omega (arith, early (goal.at.overflow_sub-left c).Else-not
 pub returns-then-left-m : goal.returns-then-left-m
 unfolding refusal_then pick
 returns-then-left-m c =
-    
     rw (fitting (goal.at.returns-then-left-m c).Else-not-fits, unbroken (goal.at.returns-then-left-m c).Else-not-is_whole, masked (goal.at.returns-then-left-m c).Else-not-masks_pass, lt-leb (c.args.s.clock + length c.args.masks.now) last_clock (omega (arith, early (goal.at.returns-then-left-m c).Else-not-masks_pass, c.if-left-m.true)))
 
 pub returns-then-room-m : goal.returns-then-room-m
 unfolding refusal_then pick
 returns-then-room-m c =
-    
     rw (fitting (goal.at.returns-then-room-m c).Else-not-fits, unbroken (goal.at.returns-then-room-m c).Else-not-is_whole, masked (goal.at.returns-then-room-m c).Else-not-masks_pass, timely (goal.at.returns-then-room-m c).Else-left-m, tight c)
 
 pub returns : goal.returns
 unfolding refusal_then pick
 returns c =
-    
     rw (fitting (goal.at.returns c).Else-not-fits, unbroken (goal.at.returns c).Else-not-is_whole, masked (goal.at.returns c).Else-not-masks_pass, timely (goal.at.returns c).Else-left-m, roomy c)

@@ -26,7 +26,7 @@ sound c = legal_sound _ (sized c.before?Start) (lawful c)
 
 pub returns-then-not-legal : goal.returns-then-not-legal
 unfolding or_no_room pick
-returns-then-not-legal c = sym (ap (λ (n : ℕ). or_no_room n) (refused_11 _ unframed _ _ _ _ (sym c.legal.ensures ∙ c.if-not-legal.true))
+returns-then-not-legal c = sym (ap (λ (n : ℕ). or_no_room n) (refused_11 _ unframed _ _ _ _ (sym c.legal.ensures ∙ c.if-not-legal.true)))
 
 pub refusal-requires : goal.refusal-requires
 refusal-requires c = ((sound c).count_high, (sound c).count_low)

@@ -25,7 +25,7 @@ sound c = legal_sound _ (sized c.before?Start) (lawful c)
 
 pub returns-then-not-legal : goal.returns-then-not-legal
 unfolding or_no_room pick
-returns-then-not-legal c = sym (ap (λ (n : ℕ). or_no_room n) (refused_11 _ (framed c.args.f) _ _ _ _ (sym c.legal.ensures ∙ c.if-not-legal.true))
+returns-then-not-legal c = sym (ap (λ (n : ℕ). or_no_room n) (refused_11 _ (framed c.args.f) _ _ _ _ (sym c.legal.ensures ∙ c.if-not-legal.true)))
 
 fails : (c : Then-not-frame_passes) → mode_ok c.args.t (framed c.args.f) ≡ false
 unfolding mode_ok

@@ -9,13 +9,9 @@ returns-then-out-at c = recorded_past c.args.t (framed c.args.f) c.args.masks.no
 
 pub stop-next-requires : goal.stop-next-requires
 stop-next-requires c =
-    
-    
     let inside = part-inside c.args.t (framed c.args.f) c.args.masks.now c.args.bytes.now c.args.s c.args.out.now c.args.at c.run_in_frame-end.result c.run_in_frame-end.new.1.1.1.1.1.0 c.if-out-at.false c.run_in_frame-end.ensures in
     omega (arith, inside)
 
 pub returns : goal.returns
 returns c =
-    
-    
     recorded_part c.args.t (framed c.args.f) c.args.masks.now c.args.bytes.now c.args.s c.args.out.now c.args.at c.run_in_frame-end.result c.run_in_frame-end.new.1.1.1.1.1.0 c.stop-next.result c.if-out-at.false c.stop-next.ensures c.run_in_frame-end.ensures

@@ -250,7 +250,6 @@ loop-r-preserved-then-rest-eq0 c =
 
 pub bounds-now-p : goal.bounds-now-p
 bounds-now-p c =
-    
     let o = outer (goal.at.bounds-now-p c).After-loop-i in
     omega (arith, part_length o.before.loop.at (start o).args.t1.count (start o).args.bytes.now (inside o), (below (goal.at.bounds-now-p c).In-loop-r).0, c.place-p.ensures.0)
 
@@ -259,19 +258,16 @@ overflow_sub-next-then-would_run c = search (rules, run-left _ _ _ (sym c.would_
 
 pub overflow_add-next-then-would_run : goal.overflow_add-next-then-would_run
 overflow_add-next-then-would_run c =
-    
     let k = going_counted _ _ _ _ _ _ _ (rw (split (goal.at.overflow_add-next-then-would_run c).In-loop-r) at c.loop-r.invariant.2) in
     search (rules, k.at c.place-p.result)
 
 pub loop-r-preserved-then-would_run : goal.loop-r-preserved-then-would_run
 loop-r-preserved-then-would_run c =
-    
-    let p = c.place-p.result in
-    let s = c.loop-r.next in (
+    (
       search rules,
       below_none (entry (goal.at.loop-r-preserved-then-would_run c).In-loop-r).args.t1.count (entry (goal.at.loop-r-preserved-then-would_run c).In-loop-r).args.t2.count (entry (goal.at.loop-r-preserved-then-would_run c).In-loop-r).args.t2.at,
-      going_over _ _ _ _ _ (entry (goal.at.loop-r-preserved-then-would_run c).In-loop-r).args.t2.count (entry (goal.at.loop-r-preserved-then-would_run c).In-loop-r).args.t2.at (going_runs _ _ _ (first (goal.at.loop-r-preserved-then-would_run c).In-loop-r) (others (goal.at.loop-r-preserved-then-would_run c).In-loop-r) s (here (goal.at.loop-r-preserved-then-would_run c).In-loop-r) (low (goal.at.loop-r-preserved-then-would_run c).In-loop-r) _ _ (rw (split (goal.at.loop-r-preserved-then-would_run c).In-loop-r) at c.loop-r.invariant.2) c.place-p.ensures.0 c.if-rest-eq0.false (sym c.would_run.ensures ∙ c.if-would_run.true)),
-      ran_long s p ((progress s p).rest - 1) ((progress s p).execution - 1) ((progress s p).ran + 1) ∙ c.loop-r.invariant.3,
+      going_over _ _ _ _ _ (entry (goal.at.loop-r-preserved-then-would_run c).In-loop-r).args.t2.count (entry (goal.at.loop-r-preserved-then-would_run c).In-loop-r).args.t2.at (going_runs _ _ _ (first (goal.at.loop-r-preserved-then-would_run c).In-loop-r) (others (goal.at.loop-r-preserved-then-would_run c).In-loop-r) c.loop-r.next (here (goal.at.loop-r-preserved-then-would_run c).In-loop-r) (low (goal.at.loop-r-preserved-then-would_run c).In-loop-r) _ _ (rw (split (goal.at.loop-r-preserved-then-would_run c).In-loop-r) at c.loop-r.invariant.2) c.place-p.ensures.0 c.if-rest-eq0.false (sym c.would_run.ensures ∙ c.if-would_run.true)),
+      ran_long c.loop-r.next c.place-p.result ((progress c.loop-r.next c.place-p.result).rest - 1) ((progress c.loop-r.next c.place-p.result).execution - 1) ((progress c.loop-r.next c.place-p.result).ran + 1) ∙ c.loop-r.invariant.3,
     )
 
 pub overflow_add-answer : goal.overflow_add-answer
@@ -279,24 +275,20 @@ overflow_add-answer c = search (rules, low (goal.at.overflow_add-answer c).In-lo
 
 pub loop-r-preserved-then-mark : goal.loop-r-preserved-then-mark
 loop-r-preserved-then-mark c =
-    
-    let p = c.place-p.result in
-    let s = c.loop-r.next in (
+    (
       search rules,
       below_none (entry (goal.at.loop-r-preserved-then-mark c).In-loop-r).args.t1.count (entry (goal.at.loop-r-preserved-then-mark c).In-loop-r).args.t2.count (entry (goal.at.loop-r-preserved-then-mark c).In-loop-r).args.t2.at,
-      going_over _ _ _ _ _ (entry (goal.at.loop-r-preserved-then-mark c).In-loop-r).args.t2.count (entry (goal.at.loop-r-preserved-then-mark c).In-loop-r).args.t2.at (going_idles _ _ _ (first (goal.at.loop-r-preserved-then-mark c).In-loop-r) (others (goal.at.loop-r-preserved-then-mark c).In-loop-r) s (here (goal.at.loop-r-preserved-then-mark c).In-loop-r) (low (goal.at.loop-r-preserved-then-mark c).In-loop-r) _ _ _ (rw (split (goal.at.loop-r-preserved-then-mark c).In-loop-r) at c.loop-r.invariant.2) c.place-p.ensures.0 c.if-rest-eq0.false (sym c.would_run.ensures ∙ c.if-would_run.false) c.heard.ensures c.if-mark.true),
-      waits_long s p ((progress s p).rest - 1) c.heard.result ∙ c.loop-r.invariant.3,
+      going_over _ _ _ _ _ (entry (goal.at.loop-r-preserved-then-mark c).In-loop-r).args.t2.count (entry (goal.at.loop-r-preserved-then-mark c).In-loop-r).args.t2.at (going_idles _ _ _ (first (goal.at.loop-r-preserved-then-mark c).In-loop-r) (others (goal.at.loop-r-preserved-then-mark c).In-loop-r) c.loop-r.next (here (goal.at.loop-r-preserved-then-mark c).In-loop-r) (low (goal.at.loop-r-preserved-then-mark c).In-loop-r) _ _ _ (rw (split (goal.at.loop-r-preserved-then-mark c).In-loop-r) at c.loop-r.invariant.2) c.place-p.ensures.0 c.if-rest-eq0.false (sym c.would_run.ensures ∙ c.if-would_run.false) c.heard.ensures c.if-mark.true),
+      waits_long c.loop-r.next c.place-p.result ((progress c.loop-r.next c.place-p.result).rest - 1) c.heard.result ∙ c.loop-r.invariant.3,
     )
 
 pub loop-r-preserved : goal.loop-r-preserved
 loop-r-preserved c =
-    
-    let p = c.place-p.result in
-    let s = c.loop-r.next in (
+    (
       search rules,
       (below (goal.at.loop-r-preserved c).In-loop-r).1,
-      going_next _ _ _ (first (goal.at.loop-r-preserved c).In-loop-r) (others (goal.at.loop-r-preserved c).In-loop-r) s (here (goal.at.loop-r-preserved c).In-loop-r) (low (goal.at.loop-r-preserved c).In-loop-r) _ _ _ (rw (split (goal.at.loop-r-preserved c).In-loop-r) at c.loop-r.invariant.2) c.place-p.ensures.0 c.if-rest-eq0.false (sym c.would_run.ensures ∙ c.if-would_run.false) c.heard.ensures c.if-mark.false,
-      waits_long s p ((progress s p).rest - 1) c.heard.result ∙ c.loop-r.invariant.3,
+      going_next _ _ _ (first (goal.at.loop-r-preserved c).In-loop-r) (others (goal.at.loop-r-preserved c).In-loop-r) c.loop-r.next (here (goal.at.loop-r-preserved c).In-loop-r) (low (goal.at.loop-r-preserved c).In-loop-r) _ _ _ (rw (split (goal.at.loop-r-preserved c).In-loop-r) at c.loop-r.invariant.2) c.place-p.ensures.0 c.if-rest-eq0.false (sym c.would_run.ensures ∙ c.if-would_run.false) c.heard.ensures c.if-mark.false,
+      waits_long c.loop-r.next c.place-p.result ((progress c.loop-r.next c.place-p.result).rest - 1) c.heard.result ∙ c.loop-r.invariant.3,
     )
 
 pub bounds-out-here : goal.bounds-out-here
@@ -323,7 +315,6 @@ shape_of-out c = sets_room c.args.out.now c.loop-k.out c.args.from (so_far (goal
 
 pub returns : goal.returns
 returns c =
-    
     let is = slice 0 c.args.order.count c.args.order.at in
     let e = le_antisymm c.loop-k.invariant.0 c.loop-k-test.false in (
       c.loop-k.invariant.2 ∙ ap (λ (n : ℕ). end_of (advance c.args.t c.args.marks is) (inputs c.args.t c.args.masks.now c.args.bytes.now c.args.from n) c.args.s) e,

@@ -98,7 +98,6 @@ steps_left-left-requires c = (start (goal.at.steps_left-left-requires c).In-loop
 
 pub play-next-requires : goal.play-next-requires
 play-next-requires c =
-    
     let l = head (goal.at.play-next-requires c).After-shorter-n in
     let z = start l in
     let d = order_below z.args.t in
@@ -113,7 +112,6 @@ play-next-requires c =
 
 pub overflow_add-k : goal.overflow_add-k
 overflow_add-k c =
-    
     let l = head (goal.at.overflow_add-k c).After-shorter-n in
     let h : l.before.loop.k + c.shorter-n.result ≤ last_clock = omega (arith, short (goal.at.overflow_add-k c).After-shorter-n, l.loop-test.taken, (start l).pre.1.1) in
     search (rules, h)
@@ -123,14 +121,12 @@ loop-k-smaller c = omega (arith, short (goal.at.loop-k-smaller c).After-shorter-
 
 pub loop-k-preserved : goal.loop-k-preserved
 loop-k-preserved c =
-    
-    
     let l = head (goal.at.loop-k-preserved c).After-shorter-n in
     let z = start l in
-    let m = c.narrow-p.ensures.2 in (
+    (
       omega (arith, short (goal.at.loop-k-preserved c).After-shorter-n, l.loop-test.taken),
-      stretch_end z.args.t (framed z.args.f) _ m (ranked c.narrow-p.result.order) z.args.masks.now z.args.bytes.now z.args.s l.before.loop.next l.before.loop.k c.shorter-n.result l.before.loop.inv.1 (stay (goal.at.loop-k-preserved c).After-shorter-n) _ c.play-next.ensures.0,
-      stretch-trace z.args.t (framed z.args.f) _ m (ranked c.narrow-p.result.order) z.args.masks.now z.args.bytes.now z.args.s l.before.loop.next l.before.loop.k c.shorter-n.result l.before.loop.inv.1 (stay (goal.at.loop-k-preserved c).After-shorter-n) z.args.out.now l.before.loop.out _ l.before.loop.inv.2 c.play-next.ensures.1,
+      stretch_end z.args.t (framed z.args.f) _ c.narrow-p.ensures.2 (ranked c.narrow-p.result.order) z.args.masks.now z.args.bytes.now z.args.s l.before.loop.next l.before.loop.k c.shorter-n.result l.before.loop.inv.1 (stay (goal.at.loop-k-preserved c).After-shorter-n) _ c.play-next.ensures.0,
+      stretch-trace z.args.t (framed z.args.f) _ c.narrow-p.ensures.2 (ranked c.narrow-p.result.order) z.args.masks.now z.args.bytes.now z.args.s l.before.loop.next l.before.loop.k c.shorter-n.result l.before.loop.inv.1 (stay (goal.at.loop-k-preserved c).After-shorter-n) z.args.out.now l.before.loop.out _ l.before.loop.inv.2 c.play-next.ensures.1,
     )
 
 pub shape_of-out : goal.shape_of-out
@@ -138,7 +134,6 @@ shape_of-out c = sets_room c.args.out.now c.loop-k.out 0 (so_far (goal.at.shape_
 
 pub returns : goal.returns
 returns c =
-    
     let e = le_antisymm c.loop-k.invariant.0 c.loop-k-test.false in (
       c.loop-k.invariant.1 ∙ ap (λ (n : ℕ). end_of (step c.args.t (framed c.args.f)) (inputs c.args.t c.args.masks.now c.args.bytes.now 0 n) c.args.s) e,
       c.loop-k.invariant.2 ∙ ap (λ (n : ℕ). sets c.args.out.now 0 (so_far (goal.at.returns c).Start n)) e,

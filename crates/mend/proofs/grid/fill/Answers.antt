@@ -17,7 +17,6 @@ loop-c-init c = (search rules, listed-none _ false 256)
 
 pub loop-c-preserved : goal.loop-c-preserved
 loop-c-preserved c =
-    
     (search rules, rw (c.loop-c.invariant.1, c.may_flow.ensures) (listed_next (λ k. flows c.args.rows (k / 16) (k % 16)) false c.loop-c.c 256 (search rules)))
 
 pub returns : goal.returns

@@ -15,7 +15,6 @@ loop-a-init c = (search rules, listed-none _ 0 16)
 
 pub loop-a-preserved : goal.loop-a-preserved
 loop-a-preserved c =
-    
     (search rules, rw (c.loop-a.invariant.1, c.row_of.ensures) (listed_next (λ k. row_from c.args.grid.now k 16) 0 c.loop-a.a 16 (search rules)))
 
 pub returns : goal.returns

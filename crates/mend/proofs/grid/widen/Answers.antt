@@ -14,7 +14,6 @@ loop-b-init c = (search rules, search rules)
 pub loop-b-preserved : goal.loop-b-preserved
 unfolding widened joined
 loop-b-preserved c =
-    
     (search rules, rw (c.by_way.ensures, add-one, c.loop-b.invariant.1))
 
 pub returns : goal.returns

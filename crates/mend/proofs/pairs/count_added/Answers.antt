@@ -17,7 +17,7 @@ more_ones-n-requires c = c.requires.at c.loop-i.i c.loop-i-test.true
 
 pub loop-i-preserved : goal.loop-i-preserved
 unfolding count
-loop-i-preserved c = let l = c.loop-i in (search rules, rw (add-one, l.invariant.1, c.more_ones-n.ensures.0), omega arith)
+loop-i-preserved c = (search rules, rw (add-one, c.loop-i.invariant.1, c.more_ones-n.ensures.0), omega arith)
 
 pub returns : goal.returns
 returns c = let e : c.loop-i.i ≡ 16 = le_antisymm c.loop-i.invariant.0 c.loop-i-test.false in rw e at c.loop-i.invariant.1

@@ -15,7 +15,6 @@ loop-c-init c = (search rules, search rules, search rules)
 
 pub put_if-n-requires : goal.put_if-n-requires
 put_if-n-requires c =
-    
     (
       search rules,
       λ t.
@@ -25,25 +24,19 @@ put_if-n-requires c =
 
 pub loop-c-preserved : goal.loop-c-preserved
 loop-c-preserved c =
-    
-    
-    
-    let e = c.is_added.ensures in (
+    (
       search rules,
-      rw (c.put_if-n.ensures.0, e)
+      rw (c.put_if-n.ensures.0, c.is_added.ensures)
           (number-next c.args.rows c.args.mended c.loop-c.c c.loop-c.n c.loop-c.invariant.1),
-      rw (c.put_if-n.ensures.1, c.put_if-n.ensures.0, e) (put_next c.args.rows c.args.mended c.loop-c.c c.loop-c.n c.args.pairs.now c.loop-c.pairs c.loop-c.invariant.1 c.loop-c.invariant.2
+      rw (c.put_if-n.ensures.1, c.put_if-n.ensures.0, c.is_added.ensures) (put_next c.args.rows c.args.mended c.loop-c.c c.loop-c.n c.args.pairs.now c.loop-c.pairs c.loop-c.invariant.1 c.loop-c.invariant.2
           (room c.args.rows c.args.mended c.loop-c.c c.loop-c.n c.args.pairs.now (search rules) c.requires c.loop-c.invariant.1)),
     )
 
 pub shape_of-pairs : goal.shape_of-pairs
 shape_of-pairs c =
-    
-    
     rw c.loop-c.invariant.2 (same_long c.args.rows c.args.mended c.loop-c.c c.loop-c.n c.args.pairs.now c.loop-c.invariant.0 c.requires c.loop-c.invariant.1)
 
 pub returns : goal.returns
 returns c =
-    let l = c.loop-c in
-    let e : l.c ≡ 256 = le_antisymm l.invariant.0 c.loop-c-test.false in
-    rw (← e, ← l.invariant.1) l.invariant.2
+    let e : c.loop-c.c ≡ 256 = le_antisymm c.loop-c.invariant.0 c.loop-c-test.false in
+    rw (← e, ← c.loop-c.invariant.1) c.loop-c.invariant.2

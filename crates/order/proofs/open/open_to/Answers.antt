@@ -54,8 +54,6 @@ bounds-t-i c = omega (arith, (inside (goal.at.bounds-t-i c).In-loop-k).0)
 
 pub loop-k-preserved : goal.loop-k-preserved
 loop-k-preserved c =
-    
-    
     let a = (start (goal.at.loop-k-preserved c).In-loop-k).args in (
       search rules,
       omega (arith, c.push_if-next.ensures.0, c.loop-k.invariant.1),
@@ -65,7 +63,5 @@ loop-k-preserved c =
 
 pub returns : goal.returns
 returns c =
-    
-    let a = c.args in
-    let e = open_none a.t1 a.d a.t2.at a.t2.count c.loop-k.k c.loop-k.invariant.0 c.loop-k-test.false in
+    let e = open_none c.args.t c.args.d c.args.o.at c.args.o.count c.loop-k.k c.loop-k.invariant.0 c.loop-k-test.false in
     (omega arith, sym (append-nil _) ∙ (rw e at c.loop-k.invariant.3))

@@ -29,7 +29,6 @@ whole c = put_join (numbered c.before?After-text-4-1) c.put-c.ensures
 
 roomy : (c : After-put-c) → c.put-c.result ≤ length c.put-c.new.0
 roomy c =
-    
     omega (arith, (whole c).end, put-length (whole c), counted_long c.args.word.now c.args.n c.requires)
 
 pub put_number-b-requires : goal.put_number-b-requires

@@ -13,7 +13,6 @@ use Rattle.report.proofs.text.put.Goals.{After-shared_slice_known-1}
 -- The next byte has its place in the buffer.
 roomy : (c : After-shared_slice_known-1) → c.loop-i.k < length c.loop-i.buf
 roomy c =
-    
     omega (
       arith,
       put-length c.loop-i.invariant.1,

@@ -29,18 +29,14 @@ within c =
 
 pub put_number-a-requires : goal.put_number-a-requires
 put_number-a-requires c =
-    
     record { fits = omega (arith, c.requires, decimal-short 10 c.args.clock (omega arith) (omega (arith, c.ranges.clock.fits))) }
 
 pub put_byte-c-requires : goal.put_byte-c-requires
 put_byte-c-requires c =
-    
-    let p = c.put_number-a.ensures in
-    omega (arith, c.requires, p.end, put-length p, short (goal.at.put_byte-c-requires c).After-put_number-a)
+    omega (arith, c.requires, c.put_number-a.ensures.end, put-length c.put_number-a.ensures, short (goal.at.put_byte-c-requires c).After-put_number-a)
 
 pub put_choice-d-requires : goal.put_choice-d-requires
 put_choice-d-requires c =
-    
     let p = spaced (goal.at.put_choice-d-requires c).After-put_byte-c in
     omega (arith, c.requires, c.put_byte-c.ensures.end, c.put_number-a.ensures.end, put-length p, short (goal.at.put_choice-d-requires c).After-put_number-a)
 

@@ -7,12 +7,9 @@ use Rattle.report.proofs.text.put_named.Goals as goal
 
 pub put_number-requires : goal.put_number-requires
 put_number-requires c =
-    
-    let p = c.put_byte-a.ensures in
-    record { fits = omega (arith, p.end, put-length p, c.requires, decimal-short 3 c.args.i (omega arith) (omega (arith, c.ranges.i.fits))) }
+    record { fits = omega (arith, c.put_byte-a.ensures.end, put-length c.put_byte-a.ensures, c.requires, decimal-short 3 c.args.i (omega arith) (omega (arith, c.ranges.i.fits))) }
 
 pub returns : goal.returns
 returns c =
-    
     let p = put_join c.put_byte-a.ensures c.put_number.ensures in
     (omega (arith, p.end, decimal-short 3 c.args.i (omega arith) (omega (arith, c.ranges.i.fits))), p)

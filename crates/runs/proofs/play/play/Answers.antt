@@ -27,7 +27,4 @@ slice_bounds-run_block-end-2 c = sym (length-take-le _ _ (inside (goal.at.slice_
 
 pub returns : goal.returns
 returns c =
-    
-    
-    
     plays ?LOST?c.before.before.before.before.before.before.before.before.before.before.before.before.args.t (mode_of ?LOST?c.before.before.before.before.before.before.before.before.before.before.before.before.args.framed ?LOST?c.before.before.before.before.before.before.before.before.before.before.before.before.args.f) ?LOST?c.before.before.before.before.before.before.before.before.before.before.before.before.requires.0 ?LOST?c.before.before.before.before.before.before.before.before.before.before.before.before.requires.1 ?LOST?c.before.before.before.before.before.before.before.before.before.before.before.before.args.s ?LOST?c.before.before.before.before.before.before.before.before.before.before.before.before.requires.2 ?LOST?c.before.before.before.before.before.before.before.before.before.before.before.before.args.masks.now ?LOST?c.before.before.before.before.before.before.before.before.before.before.before.before.args.bytes.now ?LOST?c.before.before.before.before.before.before.before.before.before.before.before.before.args.part.now _ c.stop.result c.run_block-r.result c.stop.ensures ?LOST?c.before.before.before.before.before.before.before.before.before.before.before.before.requires.3 c.run_block-r.ensures

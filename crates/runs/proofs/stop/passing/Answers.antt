@@ -20,12 +20,10 @@ loop-k-preserved-then-mask-known c = (search rules, every-next _ _ c.loop-k.inva
 
 pub returns-then-not-mask_passes : goal.returns-then-not-mask_passes
 returns-then-not-mask_passes c =
-    
-    (search rules, c.loop-k.invariant.1, λ _. sym c.mask_passes.ensures ∙ c.if-not-mask_passes.true
+    (search rules, c.loop-k.invariant.1, λ _. sym c.mask_passes.ensures ∙ c.if-not-mask_passes.true)
 
 pub loop-k-preserved : goal.loop-k-preserved
 loop-k-preserved c =
-    
     let m = sym c.mask_passes.ensures ∙ c.if-not-mask_passes.false in
     (search rules, every-next _ _ c.loop-k.invariant.1 m, both_known _ _ _ c.loop-k.invariant.2 m)
 

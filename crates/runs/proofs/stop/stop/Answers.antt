@@ -20,9 +20,6 @@ passing-n-requires c = search (rules, few (goal.at.passing-n-requires c).After-w
 
 pub returns-then-n-whole : goal.returns-then-n-whole
 returns-then-n-whole c =
-    
-    
-    
     subst (λ (w : ℕ). Stops c.args.t c.args.clock c.args.masks.now w (record { n = c.passing-n.result; why = 0 })) c.whole_steps-whole.ensures
     (stops_whole c.args.t c.args.clock c.args.masks.now c.whole_steps-whole.result c.cut.result _ c.cut.ensures.0 c.cut.ensures.1 c.cut.ensures.2 c.passing-n.ensures.0 c.passing-n.ensures.1 c.passing-n.ensures.2 c.if-n-whole.true)
 
@@ -34,9 +31,5 @@ bounds-masks-n c = search (rules, few (goal.at.bounds-masks-n c).After-whole_ste
 
 pub returns : goal.returns
 returns c =
-    
-    
-    
-    
     subst (λ (w : ℕ). Stops c.args.t c.args.clock c.args.masks.now w (record { n = c.passing-n.result; why = c.refusal-why.result })) c.whole_steps-whole.ensures
     (stops_before c.args.t c.args.clock c.args.masks.now c.whole_steps-whole.result c.cut.result _ c.cut.ensures.0 c.cut.ensures.1 c.cut.ensures.2 c.passing-n.ensures.0 c.passing-n.ensures.1 c.passing-n.ensures.2 _ c.if-n-whole.false c.refusal-why.ensures)

@@ -17,5 +17,4 @@ returns-then-s-next c = sym (at_lone_return _ _ _ c.wide-b.ensures.0 c.if-s-at.f
 
 pub returns : goal.returns
 returns c =
-    
     sym (at_return _ _ _ c.wide-b.ensures.0 c.if-s-at.false _ c.if-b-ne13.false c.wide.ensures.0 c.if-s-next.false)

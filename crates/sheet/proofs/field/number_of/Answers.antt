@@ -17,7 +17,7 @@ pub returns-then-is_padded : goal.returns-then-is_padded
 returns-then-is_padded c = judged-padded _ _ (sym c.is_padded.ensures ∙ c.if-is_padded.true)
 
 pub returns-then-not-is_digits : goal.returns-then-not-is_digits
-returns-then-not-is_digits c = judged_strange _ _ (unpadded (goal.at.returns-then-not-is_digits c).Else-is_padded) (sym c.is_digits.ensures ∙ c.if-not-is_digits.true
+returns-then-not-is_digits c = judged_strange _ _ (unpadded (goal.at.returns-then-not-is_digits c).Else-is_padded) (sym c.is_digits.ensures ∙ c.if-not-is_digits.true)
 
 pub value_of-v-requires : goal.value_of-v-requires
 value_of-v-requires c = digits c

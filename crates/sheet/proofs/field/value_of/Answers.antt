@@ -23,7 +23,6 @@ returns-then-v-gt65535 c = sym (value_over _ _ _ c.loop-i.invariant.3 _ c.wide.e
 
 pub loop-i-preserved : goal.loop-i-preserved
 loop-i-preserved c =
-    
     (omega arith, c.if-v-gt65535.false, (digit_at _ _ _ c.wide.ensures.0 c.loop-i-test.true c.loop-i.invariant.2).2, value_on _ _ _ c.loop-i.invariant.3 _ c.wide.ensures.0 c.loop-i-test.true)
 
 pub returns : goal.returns

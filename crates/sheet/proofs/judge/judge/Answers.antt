@@ -22,13 +22,12 @@ put_front {b} {b'} {k} {xs} p h =
     (omega (arith, put-length p, q, h), rw (q, e) (take-append_seam xs (drop (0 + length xs) b)))
 
 -- What was cut fits in its array, and its bytes in the buffer.
-kept : (c : After-bytes-1) → let a = c.args in Kept a.cut × (length (cut_bytes a.cut) ≤ 825)
+kept : (c : After-bytes-1) → Kept c.args.cut × (length (cut_bytes c.args.cut) ≤ 825)
 kept c = cut_short c.args.s.now c.args.cut c.requires
 
 -- The bytes of the cut numbers stand at the front of the buffer.
 front : (c : After-write_numbers-end) →
-    let b = c.write_numbers-end.new.0 in
-    (c.write_numbers-end.result ≤ length b) × (take c.write_numbers-end.result b ≡ cut_bytes c.args.cut)
+    (c.write_numbers-end.result ≤ length c.write_numbers-end.new.0) × (take c.write_numbers-end.result c.write_numbers-end.new.0 ≡ cut_bytes c.args.cut)
 front c = put_front c.write_numbers-end.ensures (kept c.before?After-bytes-1).1
 
 pub slice_bounds-numbers-end : goal.slice_bounds-numbers-end

@@ -8,10 +8,8 @@ returns-in-Accepted c = passed_so _ _ _ c.requires c.read-r.result c.read-r.ensu
 
 pub returns-in-Refused : goal.returns-in-Refused
 returns-in-Refused c =
-    
     judged_so _ _ _ c.requires c.read-r.result c.read-r.ensures.0 _ _ c.in-Refused.is c.objected.ensures
 
 pub returns-in-Intransitive : goal.returns-in-Intransitive
 returns-in-Intransitive c =
-    
     judged_so _ _ _ c.requires c.read-r.result c.read-r.ensures.0 _ _ c.in-Intransitive.is c.gapped.ensures

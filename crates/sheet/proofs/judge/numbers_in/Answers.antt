@@ -14,14 +14,13 @@ overflow_add-k c = omega (arith, c.loop-i.invariant.1.few)
 
 pub loop-i-preserved : goal.loop-i-preserved
 loop-i-preserved c =
-    
-    let d = c.loop-i.invariant.1 in (
+    (
       omega arith,
       ⊎_elim
-          (λ w. counted-last _ _ _ _ _ d w.3 c.loop-i-test.true w.0.taken w.2.taken)
+          (λ w. counted-last _ _ _ _ _ c.loop-i.invariant.1 w.3 c.loop-i-test.true w.0.taken w.2.taken)
           (λ v. ⊎_elim
-          (λ w. counted_inner _ _ _ _ _ d w.3 c.loop-i-test.true w.0.taken w.2.left)
-          (λ w. counted_past _ _ _ _ _ d w.1 w.0.left)
+          (λ w. counted_inner _ _ _ _ _ c.loop-i.invariant.1 w.3 c.loop-i-test.true w.0.taken w.2.left)
+          (λ w. counted_past _ _ _ _ _ c.loop-i.invariant.1 w.1 w.0.left)
           v)
           c.if-i-n.branch,
     )

@@ -30,10 +30,8 @@ returns-then-cut-ne0 c = c.own_fault.ensures ∙ faulty _ _ _ c.if-cut-ne0.true
 
 pub returns-then-cut-s : goal.returns-then-cut-s
 returns-then-cut-s c =
-    let a = c.args in
-    c.refused_reading.ensures ∙ more-text a.s.now a.cut _ c.if-cut-ne0.false c.if-cut-s.true
+    c.refused_reading.ensures ∙ more-text c.args.s.now c.args.cut _ c.if-cut-ne0.false c.if-cut-s.true
 
 pub returns : goal.returns
 returns c =
-    let a = c.args in
-    all_read a.s.now a.cut _ c.if-cut-ne0.false c.if-cut-s.false
+    all_read c.args.s.now c.args.cut _ c.if-cut-ne0.false c.if-cut-s.false

@@ -12,8 +12,7 @@ put_byte-a-requires c = omega (arith, c.requires.fits, ap length (ending-last c.
 
 pub put_byte-requires : goal.put_byte-requires
 put_byte-requires c =
-    let p = c.put_byte-a.ensures in
-    omega (arith, c.requires.fits, p.end, put-length p, ap length (ending-last c.if-last.true))
+    omega (arith, c.requires.fits, c.put_byte-a.ensures.end, put-length c.put_byte-a.ensures, ap length (ending-last c.if-last.true))
 
 pub returns-then-last : goal.returns-then-last
 returns-then-last c =

@@ -9,7 +9,6 @@ use Rattle.sheet.proofs.put.put_field.Goals as goal
 
 pub put_number-a-requires : goal.put_number-a-requires
 put_number-a-requires c =
-    
     room_part c.requires (omega (arith, length-append (decimal c.args.v) (ending c.args.last)))
 
 pub put_ending-requires : goal.put_ending-requires

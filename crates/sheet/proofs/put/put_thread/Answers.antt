@@ -25,5 +25,4 @@ put_line-requires c =
 
 pub returns : goal.returns
 returns c =
-    
     rw (c.fields_in-n.ensures, c.fields-vs.ensures) at c.put_line.ensures

@@ -16,7 +16,7 @@ goes c = sym c.goes_on.ensures ∙ c.if-not-goes_on.false
 
 pub returns-then-not-goes_on : goal.returns-then-not-goes_on
 unfolding turned pick
-returns-then-not-goes_on c = rw (sym c.goes_on.ensures ∙ c.if-not-goes_on.true
+returns-then-not-goes_on c = rw (sym c.goes_on.ensures ∙ c.if-not-goes_on.true)
 
 pub cut_number-requires : goal.cut_number-requires
 cut_number-requires c =

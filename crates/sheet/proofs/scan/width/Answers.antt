@@ -5,7 +5,7 @@ use borrow.Author.Rules.{rules}
 use Rattle.sheet.proofs.scan.width.Goals as goal
 
 pub returns-then-version-lt256 : goal.returns-then-version-lt256
-returns-then-version-lt256 c = let e = c.fields_in.ensures in (e, rw e (fields_in-most _))
+returns-then-version-lt256 c = (c.fields_in.ensures, rw c.fields_in.ensures (fields_in-most _))
 
 pub returns : goal.returns
-returns c = let e = c.fields_in-2.ensures in (e ∙ fields-above _ c.if-version-lt256.false, rw e (fields_in-most _))
+returns c = (c.fields_in-2.ensures ∙ fields-above _ c.if-version-lt256.false, rw c.fields_in-2.ensures (fields_in-most _))

@@ -17,5 +17,4 @@ overflow_add-result c = omega (arith, few (goal.at.overflow_add-result c).After-
 
 pub returns : goal.returns
 returns c =
-    let s = c.args in
-    omega (arith, few (goal.at.returns c).After-places-digits, c.places-digits.ensures, c.ending_size-end.ensures, length-append (decimal s.v) (ending s.last))
+    omega (arith, few (goal.at.returns c).After-places-digits, c.places-digits.ensures, c.ending_size-end.ensures, length-append (decimal c.args.v) (ending c.args.last))

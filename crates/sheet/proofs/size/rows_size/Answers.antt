@@ -23,5 +23,4 @@ line_size-requires c = rw (length-take-le _ _ (enough (goal.at.line_size-require
 
 pub returns : goal.returns
 returns c =
-    
     (rw (rows_taken _ _ (enough (goal.at.returns c).Start)) c.line_size.ensures.0, omega (arith, c.requires, c.line_size.ensures.1, length-take-le c.args.n c.args.rows (enough (goal.at.returns c).Start)))

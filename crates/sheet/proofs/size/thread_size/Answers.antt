@@ -24,7 +24,6 @@ line_size-requires c = let e = enough (goal.at.line_size-requires c).After-field
 
 pub returns : goal.returns
 returns c =
-    
     let e = enough (goal.at.returns c).After-fields_in-n in (
       rw (c.fields_in-n.ensures, c.fields-vs.ensures) at c.line_size.ensures.0,
       omega (arith, c.line_size.ensures.1, length-take-le c.fields_in-n.result c.fields-vs.result e.0, e.1),

@@ -31,14 +31,12 @@ loop-i-init c = (search rules, every-none _)
 pub returns-then-not-place_fits : goal.returns-then-not-place_fits
 unfolding fits
 returns-then-not-place_fits c =
-    
     let e : test (goal.at.returns-then-not-place_fits c).In-loop-i c.loop-i.i ≡ false = sym (judged (goal.at.returns-then-not-place_fits c).After-place_fits) ∙ c.if-not-place_fits.true in
     simp (every_fails (test (goal.at.returns-then-not-place_fits c).In-loop-i) c.loop-i.i 32 e c.loop-i-test.true) (sym (and-false (leb c.args.s.clock 1000000000)))
 
 pub loop-i-preserved : goal.loop-i-preserved
 loop-i-preserved c =
-    
-    (search rules, every-next (test (goal.at.loop-i-preserved c).In-loop-i) c.loop-i.i c.loop-i.invariant.1 (sym (judged (goal.at.loop-i-preserved c).After-place_fits) ∙ c.if-not-place_fits.false)
+    (search rules, every-next (test (goal.at.loop-i-preserved c).In-loop-i) c.loop-i.i c.loop-i.invariant.1 (sym (judged (goal.at.loop-i-preserved c).After-place_fits) ∙ c.if-not-place_fits.false))
 
 pub returns : goal.returns
 unfolding fits

@@ -16,7 +16,6 @@ loop-i-init c = (search rules, rw c.no_progress-none.ensures (listed-none (ready
 
 pub loop-i-preserved : goal.loop-i-preserved
 loop-i-preserved c =
-    
     (search rules, rw (c.loop-i.invariant.1, c.ready.ensures) (listed_next (ready c.args.t) no_progress c.loop-i.i 32 (omega arith)))
 
 pub returns : goal.returns

@@ -26,10 +26,9 @@ loop-k-init c = (search rules, every-none _)
 pub returns-then-not-in_range : goal.returns-then-not-in_range
 unfolding thread_ok
 returns-then-not-in_range c =
-    
     rw (← c.fields-vs.ensures)
     (sym (every_fails (field_ok c.args.version c.args.domains c.fields-vs.result) _ field_count
-    (field-test _ _ _ _ _ _ _ c.fields-vs.ensures c.field_ranges-ranges.ensures (sym c.in_range.ensures ∙ c.if-not-in_range.true)
+    (field-test _ _ _ _ _ _ _ c.fields-vs.ensures c.field_ranges-ranges.ensures (sym c.in_range.ensures ∙ c.if-not-in_range.true))
     c.loop-k-test.true))
 
 pub loop-k-preserved : goal.loop-k-preserved
@@ -37,7 +36,7 @@ loop-k-preserved c =
     (
       search rules,
       every-next _ _ c.loop-k.invariant.1
-          (field-test _ _ _ _ _ _ _ c.fields-vs.ensures c.field_ranges-ranges.ensures (sym c.in_range.ensures ∙ c.if-not-in_range.false),
+          (field-test _ _ _ _ _ _ _ c.fields-vs.ensures c.field_ranges-ranges.ensures (sym c.in_range.ensures ∙ c.if-not-in_range.false)),
     )
 
 pub returns : goal.returns

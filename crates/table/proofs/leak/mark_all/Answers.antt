@@ -15,7 +15,6 @@ loop-i-init c = (search rules, rw c.no_mark-none.ensures (listed-none (λ k. mar
 
 pub loop-i-preserved : goal.loop-i-preserved
 loop-i-preserved c =
-    
     (search rules, rw (c.loop-i.invariant.1, c.mark_of.ensures) (listed_next (λ k. mark (protects c.args.t k)) (mark nothing) c.loop-i.i 32 (omega arith)))
 
 pub returns : goal.returns

@@ -29,14 +29,12 @@ hidden-same t i j =
 
 hidden : (c : After-hides)
     → 
-    let a = c.args in
-    c.hides.result ≡ hidden_below a.t1 a.i c.loop-j.j
+    c.hides.result ≡ hidden_below c.args.t c.args.i c.loop-j.j
 hidden c = (rw c.row-flow.ensures at c.hides.ensures) ∙ hidden-same _ _ _
 
 pub returns-then-hides : goal.returns-then-hides
 unfolding protects pick
 returns-then-hides c =
-    
     let f : ℕ → Sought ℕ = λ k. pick (hidden_below c.args.t c.args.i k) (found k) nothing in
     ap mark (sym (first_hit f _ _ _ c.loop-j.invariant.1 (rw (sym (hidden (goal.at.returns-then-hides c).After-hides) ∙ c.if-hides.true)) c.loop-j-test.true))
 
@@ -47,5 +45,4 @@ loop-j-preserved c = (search rules, first_next _ _ c.loop-j.invariant.1 (rw (sym
 pub returns : goal.returns
 unfolding protects
 returns c =
-    
     c.no_mark.ensures ∙ ap mark (sym (first_end _ _ _ c.loop-j.invariant.1 c.loop-j.invariant.0 c.loop-j-test.false))

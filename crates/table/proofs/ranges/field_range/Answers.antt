@@ -13,6 +13,5 @@ returns-then-k-lt-FIELDS c = rw c.field_ranges-ranges.ensures
 pub returns : goal.returns
 unfolding field_range field_ranges
 returns c =
-    let a = c.args in
-    let vs : List ℕ = a.t3 in
-    sym (get_or-eq_default (field_ranges a.version a.domains (get_or vs 2 0) (get_or vs 3 0) (get_or vs 4 0)) (range 0 0) c.if-k-lt-FIELDS.false)
+    let vs : List ℕ = c.args.fields in
+    sym (get_or-eq_default (field_ranges c.args.version c.args.domains (get_or vs 2 0) (get_or vs 3 0) (get_or vs 4 0)) (range 0 0) c.if-k-lt-FIELDS.false)

@@ -29,5 +29,4 @@ returns-then-b-eq44 c =
 pub returns : goal.returns
 unfolding fed
 returns c =
-    
     c.take.ensures ∙ ap (λ (f : Field). taken f c.args.b) (at_rest (goal.at.returns c).After-settle-h) ∙ sym (character_other _ _ c.if-b-eq10.false c.if-b-eq13.false c.if-b-eq44.false)

@@ -7,7 +7,7 @@ use Rattle.typed.proofs.characters.grown.Goals as goal
 
 pub returns-then-not-is_digit : goal.returns-then-not-is_digit
 unfolding grown pick
-returns-then-not-is_digit c = rw (sym c.is_digit.ensures ∙ c.if-not-is_digit.true
+returns-then-not-is_digit c = rw (sym c.is_digit.ensures ∙ c.if-not-is_digit.true)
 
 pub worth-requires : goal.worth-requires
 worth-requires c = sym c.is_digit.ensures ∙ c.if-not-is_digit.false

@@ -12,12 +12,10 @@ loop-k-init c = refl
 
 pub returns-then-g-ne0 : goal.returns-then-g-ne0
 returns-then-g-ne0 c =
-    
     sym (read_stop _ _ _ c.feed-g.ensures c.loop-k-test.true c.if-g-ne0.true) ∙ c.loop-k.invariant
 
 pub loop-k-preserved : goal.loop-k-preserved
 loop-k-preserved c =
-    
     sym (read_more _ _ _ c.feed-g.ensures c.loop-k-test.true c.if-g-ne0.false) ∙ c.loop-k.invariant
 
 pub returns : goal.returns

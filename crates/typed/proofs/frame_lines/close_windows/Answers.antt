@@ -16,5 +16,4 @@ returns-then-field-eq2 c = sym (pick_second _ _ c.if-w.false ∙ pick_first _ _ 
 pub returns : goal.returns
 unfolding windows_closed
 returns c =
-    
     c.take_ended.ensures ∙ ap (window_taken _) c.close.ensures ∙ sym (pick_second _ _ c.if-w.false ∙ pick_second _ _ (ne_eqb _ _ c.if-field-eq2.false))

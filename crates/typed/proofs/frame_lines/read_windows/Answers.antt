@@ -13,7 +13,6 @@ loop-i-init c = (omega arith, refl)
 
 pub loop-i-preserved : goal.loop-i-preserved
 loop-i-preserved c =
-    
     (omega arith, sym (windows-next _ _ _ c.feed_windows-v.ensures c.loop-i-test.true) ∙ c.loop-i.invariant.1)
 
 pub returns : goal.returns

@@ -10,11 +10,9 @@ returns-then-f c = rw c.if-f.true
 pub returns-then-f-eq0 : goal.returns-then-f-eq0
 unfolding is_plain
 returns-then-f-eq0 c =
-    
     rw (c.if-f.false, c.if-f-eq0.true)
 
 pub returns : goal.returns
 unfolding is_plain
 returns c =
-    
     rw (c.if-f.false, lt-ltb 0 c.args.f.size (omega (arith, c.if-f-eq0.false)))

@@ -16,5 +16,4 @@ returns-then-r c = sym (pick_first _ _ (eq-eqb _ _ c.if-r-ne0.false) ∙ pick_fi
 pub returns : goal.returns
 unfolding rows_closed
 returns c =
-    
     c.refuse.ensures ∙ ap (λ p. refused_at 1 p c.args.r) c.open_place.ensures ∙ sym (pick_first _ _ (eq-eqb _ _ c.if-r-ne0.false) ∙ pick_second _ _ c.if-r.false)

@@ -16,5 +16,4 @@ returns-then-why-eq0 c = rw (eq-eqb _ _ (sym c.fault-why.ensures ∙ c.if-why-eq
 pub returns : goal.returns
 unfolding row_taken pick
 returns c =
-    let e = c.fault-why.ensures in
-    rw (ne_eqb _ _ (λ q. c.if-why-eq0.false (e ∙ q))) (rw e at c.refuse.ensures)
+    rw (ne_eqb _ _ (λ q. c.if-why-eq0.false (c.fault-why.ensures ∙ q))) (rw c.fault-why.ensures at c.refuse.ensures)

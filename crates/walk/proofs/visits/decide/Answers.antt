@@ -12,7 +12,6 @@ use Rattle.walk.proofs.visits.decide.Goals as goal
 
 pub count-ran-requires : goal.count-ran-requires
 count-ran-requires c =
-    
     let i : ℕ = c.args.i in
     let h = pay-each 32 _ (kept_counts 32 999999999) i _ c.requires.0 c.requires.2 in
     let left : 0 < (progress c.args.s i).execution

@@ -51,7 +51,6 @@ returns-then-is_chosen c = let e : chosen (visited (goal.at.returns-then-is_chos
 
 pub loop-k-preserved : goal.loop-k-preserved
 loop-k-preserved c =
-    
     let e : chosen (visited (goal.at.loop-k-preserved c).In-loop-k).answer ≡ false
     = ap (λ (w : Walked). chosen w.answer) (sym c.visit-v.ensures) ∙ sym c.is_chosen.ensures ∙ c.if-is_chosen.false in (
       search rules,
@@ -61,4 +60,4 @@ loop-k-preserved c =
     )
 
 pub returns : goal.returns
-returns c = let a = c.args in cc (walk_none a.marks a.bytes.now a.t3.at a.t3.count c.loop-k.k c.loop-k.next c.loop-k.invariant.0 c.loop-k-test.false)
+returns c = cc (walk_none c.args.marks c.args.bytes.now c.args.o.at c.args.o.count c.loop-k.k c.loop-k.next c.loop-k.invariant.0 c.loop-k-test.false)

@@ -25,5 +25,4 @@ write_numbers-requires c =
 
 pub returns : goal.returns
 returns c =
-    
     rw (c.fields_in-n.ensures, c.fields-vs.ensures) at c.write_numbers.ensures

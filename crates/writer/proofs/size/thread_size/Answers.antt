@@ -16,12 +16,10 @@ loop-i-init c = (omega arith, rw c.fields_in-i-end.ensures (fields_in-most _), r
 
 pub loop-i-preserved : goal.loop-i-preserved
 loop-i-preserved c =
-    
     let h : c.loop-i.i < length c.fields-vs.result = omega (arith, ap length c.fields-vs.ensures) in
     omega (arith, numbers-length c.fields-vs.result c.loop-i.i h)
 
 pub returns : goal.returns
 returns c =
-    
     let e : c.loop-i.i ≡ fields_in c.args.version = omega (arith, c.fields_in-i-end.ensures) in
     (rw (e, c.fields-vs.ensures) at c.loop-i.invariant.2, omega arith)
