@@ -1,5 +1,4 @@
 use Rattle.flow.proofs.FlowLaws.{no_bits}
-use borrow.Author.Rules.{rules}
 use Rattle.flow.proofs.bit.Goals as goal
 
 pub returns-then-j-ge16 : goal.returns-then-j-ge16

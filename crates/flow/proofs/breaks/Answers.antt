@@ -1,6 +1,5 @@
 use Rattle.flow.specs.Gap.{broken}
 use mathlib.Core.Path.{sym, ◌∙◌}
-use borrow.Author.Rules.{rules}
 use Rattle.flow.proofs.breaks.Goals as goal
 
 pub returns-then-may_flow-2 : goal.returns-then-may_flow-2

@@ -1,13 +1,8 @@
 -- `flow::first_gap` meets its contract: each of the three loops has found nothing so far in its own search, `gap_by_c`, `gap_by_b` and `first_gap`.
 use Rattle.basis.specs.Search.{nothing, first}
-use Rattle.basis.proofs.SearchLaws.{first-none, first_next, first_hit, first_end}
-use Rattle.flow.proofs.GapLaws.{gap_at-none, gap_at_hit, whole_by_c}
-use Rattle.flow.specs.Gap.{gap_at, gap_by_c, gap_by_b, first_gap, gap_told, told}
+use Rattle.flow.specs.Gap.{gap_at, gap_by_c, gap_by_b}
 use Rattle.flow.specs.declared.Gap.TheVariants.{None}
-use mathlib.Core.Logic.{⊎_elim}
-use borrow.Author.Tests.{not-false}
-use native.Mathlib.Omega.{arith}
-use mathlib.Core.Path.{◌≡◌, refl, sym, ◌∙◌, ap}
+use mathlib.Core.Path.{◌≡◌}
 use Prim.Native.Nat.{◌≤◌, ◌-◌}
 use Rattle.flow.proofs.first_gap.Given as goal
 

@@ -1,6 +1,5 @@
 use Rattle.flow.proofs.GapLaws.{apart-whole, covered_whole}
 use mathlib.Core.Path.{sym, ◌∙◌}
-use borrow.Author.Rules.{rules}
 use Rattle.flow.proofs.is_whole.Goals as goal
 
 pub returns-then-may_flow : goal.returns-then-may_flow

@@ -1,5 +1,4 @@
 use Rattle.flow.specs.Flow.{flows}
-use borrow.Author.Rules.{rules}
 use Rattle.flow.proofs.may_flow.Goals as goal
 
 pub returns : goal.returns

@@ -1,5 +1,4 @@
 use Rattle.flow.proofs.FlowLaws.{no_bits}
-use borrow.Author.Rules.{rules}
 use Rattle.flow.proofs.none_from.Goals as goal
 
 pub returns-then-d-ge16 : goal.returns-then-d-ge16

@@ -2,7 +2,6 @@ use lib.ListN.{length, get_or-eq_default}
 use mathlib.Core.Path.{sym}
 use native.Mathlib.Omega.{arith}
 use Prim.Native.Nat.{◌≤◌}
-use borrow.Author.Rules.{rules}
 use Rattle.flow.proofs.row.Goals as goal
 
 pub returns-then-i-ge16 : goal.returns-then-i-ge16

@@ -1,6 +1,5 @@
 use Rattle.flow.specs.Flow.{row_ok}
 use mathlib.Core.Path.{sym, ◌∙◌}
-use borrow.Author.Rules.{rules}
 use Rattle.flow.proofs.row_passes.Goals as goal
 
 pub returns-then-none_from : goal.returns-then-none_from
