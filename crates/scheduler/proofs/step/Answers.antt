@@ -15,27 +15,26 @@ use borrow.Author.Rules.{rules}
 use Rattle.scheduler.proofs.step.Goals as goal
 use Rattle.scheduler.proofs.step.Goals.{Else-not-legal}
 
--- The table's sizes are its types'.
-sized : (s : tie.Start) → Sized s.args.t
-sized s = record { rows = search (rules, long_of); threads = search (rules, long_of) }
-
 -- What the test of the table told, once it was passed.
 lawful : (c : Else-not-legal) → legal c.args.t ≡ true
 lawful c = sym c.legal.ensures ∙ c.if-not-legal.false
 
 ready : (c : Else-not-legal) → Usable c.args.t
-ready c = usable _ (sized c.before?Start) (lawful c)
+ready c =
+    -- the table's sizes are its types'
+    let sized : Sized c.args.t = record { rows = search (rules, long_of); threads = search (rules, long_of) } in
+    usable _ sized (lawful c)
 
 pub returns-then-not-legal : goal.returns-then-not-legal
 unfolding taken pick
 returns-then-not-legal c = rw (sym c.legal.ensures ∙ c.if-not-legal.true) c.refuse.ensures
 
 pub prepare-p-requires : goal.prepare-p-requires
-prepare-p-requires c = (ready c).few
+prepare-p-requires c = (ready (goal.at.prepare-p-requires c).Else-not-legal).few
 
 pub step_over-requires : goal.step_over-requires
 step_over-requires c =
-    (ready (goal.at.step_over-requires c).Else-not-legal, (c.prepare-p.ensures.0, rw c.prepare-p.ensures.1 (order_below c.args.t)))
+    record { usable = ready (goal.at.step_over-requires c).Else-not-legal; count_bound = (c.prepare-p.ensures.0, rw c.prepare-p.ensures.1 (order_below c.args.t)) }
 
 pub returns : goal.returns
 unfolding taken step marks_at mode_ok threads_at pick

@@ -19,16 +19,15 @@ use borrow.Author.Rules.{rules}
 use Rattle.scheduler.proofs.step_in_frame.Goals as goal
 use Rattle.scheduler.proofs.step_in_frame.Goals.{Else-not-frame_passes, Else-not-legal}
 
--- The table's sizes are its types'.
-sized : (s : tie.Start) → Sized s.args.t
-sized s = record { rows = search (rules, long_of); threads = search (rules, long_of) }
-
 -- What the test of the table told, once it was passed.
 lawful : (c : Else-not-legal) → legal c.args.t ≡ true
 lawful c = sym c.legal.ensures ∙ c.if-not-legal.false
 
 ready : (c : Else-not-legal) → Usable c.args.t
-ready c = usable _ (sized c.before?Start) (lawful c)
+ready c =
+    -- the table's sizes are its types'
+    let sized : Sized c.args.t = record { rows = search (rules, long_of); threads = search (rules, long_of) } in
+    usable _ sized (lawful c)
 
 passing : (c : Else-not-frame_passes) → frame_ok c.args.t c.args.f ≡ true
 passing c = sym c.frame_passes.ensures ∙ c.if-not-frame_passes.false
@@ -53,7 +52,7 @@ narrow-p-requires c =
 
 pub step_over-requires : goal.step_over-requires
 step_over-requires c =
-    (ready (goal.at.step_over-requires c).Else-not-legal, (c.narrow-p.ensures.0, rw (c.narrow-p.ensures.1, c.prepare-all.ensures.1) (open_below c.args.t _ c.args.t.count (order c.args.t) (order_below c.args.t))))
+    record { usable = ready (goal.at.step_over-requires c).Else-not-legal; count_bound = (c.narrow-p.ensures.0, rw (c.narrow-p.ensures.1, c.prepare-all.ensures.1) (open_below c.args.t _ c.args.t.count (order c.args.t) (order_below c.args.t))) }
 
 pub returns : goal.returns
 unfolding taken step marks_at mode_ok threads_at pick

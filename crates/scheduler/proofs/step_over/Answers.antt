@@ -13,19 +13,16 @@ use borrow.Author.Rules.{rules}
 use Rattle.scheduler.proofs.step_over.Goals as goal
 use Rattle.scheduler.proofs.step_over.Goals.{Else-not-fits, Else-not-mask_passes}
 
-long : (s : tie.Start) → length s.args.s.threads ≡ 32
-long s = search (rules, long_of)
-
 -- What each test told, once it was passed.
 fitting : (c : Else-not-fits) → fits c.args.t c.args.s ≡ true
-fitting c = sym c.fits2.ensures ∙ c.if-not-fits.false
+fitting c = sym c.fits.ensures ∙ c.if-not-fits.false
 
 masked : (c : Else-not-mask_passes) → mask_ok c.args.t c.args.mask ≡ true
 masked c = sym c.mask_passes.ensures ∙ c.if-not-mask_passes.false
 
 pub returns-then-not-fits : goal.returns-then-not-fits
 unfolding taken_then pick
-returns-then-not-fits c = rw (sym c.fits2.ensures ∙ c.if-not-fits.true) c.refuse.ensures
+returns-then-not-fits c = rw (sym c.fits.ensures ∙ c.if-not-fits.true) c.refuse.ensures
 
 pub returns-then-bytes-t : goal.returns-then-bytes-t
 unfolding taken_then pick
@@ -44,9 +41,14 @@ returns-then-s-ge1000000000 c =
 
 pub advance-w-requires : goal.advance-w-requires
 advance-w-requires c =
-    let f : Fits c.args.t c.args.s = fits_sound _ _ c.requires.0.few (long (goal.at.advance-w-requires c).Start) (fitting (goal.at.advance-w-requires c).Else-not-fits) in
+    let long : length c.args.s.threads ≡ 32 = search (rules, long_of) in
+    let f : Fits c.args.t c.args.s = fits_sound _ _ c.requires.usable.few long (fitting (goal.at.advance-w-requires c).Else-not-fits) in
     let e : length c.args.bytes.now ≡ c.args.t.count = c.if-bytes-t.false in
-    (c.requires.0, ((c.requires.1.0, rw e c.requires.1.1), (f, c.if-s-ge1000000000.false, omega (arith, c.requires.0.few, e))))
+    record {
+      usable = c.requires.usable;
+      count_bound = (c.requires.count_bound.0, rw e c.requires.count_bound.1);
+      fits = (f, c.if-s-ge1000000000.false, omega (arith, c.requires.usable.few, e));
+    }
 
 pub returns : goal.returns
 unfolding taken_then pick
