@@ -77,6 +77,9 @@ pub fn mask_passes(t: Table, mask: u32) -> bool
     true
 }
 
+// From this clock on no step is made.
+const END_CLOCK: u32 = 1000000000;
+
 // A prepared step of a table that is known to be legal: 12, 13, 18, 14, or the answer and the next state.
 fn step_over(t: Table, p: Prepared, s: State, mask: u32, bytes: &[u8]) -> Stepped
     requires usable { Usable t }
@@ -92,7 +95,7 @@ fn step_over(t: Table, p: Prepared, s: State, mask: u32, bytes: &[u8]) -> Steppe
     if !mask_passes(t, mask) {
         return refuse(18, s);
     }
-    if 1000000000 <= s.clock {
+    if END_CLOCK <= s.clock {
         return refuse(14, s);
     }
     let w = advance(t, p, s, mask, bytes);
