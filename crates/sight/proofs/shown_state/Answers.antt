@@ -12,15 +12,15 @@ returns-then-not-legal c = let e = sym c.legal.ensures ∙ c.if-not-legal.true i
 
 pub returns-then-not-fits : goal.returns-then-not-fits
 unfolding showing_state threads_shown pick
-returns-then-not-fits c = let l = sym c.legal.ensures ∙ c.if-not-legal.false in let e = sym c.fits2.ensures ∙ c.if-not-fits.true in (rw (c.blind-then-not-fits.ensures.0, l, e), rw (l, e) c.blind-then-not-fits.ensures.1)
+returns-then-not-fits c = let l = sym c.legal.ensures ∙ c.if-not-legal.false in let e = sym c.fits.ensures ∙ c.if-not-fits.true in (rw (c.blind-then-not-fits.ensures.0, l, e), rw (l, e) c.blind-then-not-fits.ensures.1)
 
 pub returns-then-t-domain : goal.returns-then-t-domain
 unfolding showing_state threads_shown pick
-returns-then-t-domain c = let l = sym c.legal.ensures ∙ c.if-not-legal.false in let f = sym c.fits2.ensures ∙ c.if-not-fits.false in let e = le-ltb _ _ c.if-t-domain.true in (rw (c.blind-then-t-domain.ensures.0, l, f, e), rw (l, f, e) c.blind-then-t-domain.ensures.1)
+returns-then-t-domain c = let l = sym c.legal.ensures ∙ c.if-not-legal.false in let f = sym c.fits.ensures ∙ c.if-not-fits.false in let e = le-ltb _ _ c.if-t-domain.true in (rw (c.blind-then-t-domain.ensures.0, l, f, e), rw (l, f, e) c.blind-then-t-domain.ensures.1)
 
 pub seen_threads-requires : goal.seen_threads-requires
 seen_threads-requires c = (legal_small _ (sym c.legal.ensures ∙ c.if-not-legal.false)).1
 
 pub returns : goal.returns
 unfolding showing_state threads_shown pick
-returns c = let l = sym c.legal.ensures ∙ c.if-not-legal.false in let f = sym c.fits2.ensures ∙ c.if-not-fits.false in let e = lt-ltb _ _ c.if-t-domain.false in (rw (l, f, e), rw (l, f, e) c.seen_threads.ensures)
+returns c = let l = sym c.legal.ensures ∙ c.if-not-legal.false in let f = sym c.fits.ensures ∙ c.if-not-fits.false in let e = lt-ltb _ _ c.if-t-domain.false in (rw (l, f, e), rw (l, f, e) c.seen_threads.ensures)
