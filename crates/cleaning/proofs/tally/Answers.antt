@@ -21,7 +21,7 @@ loop-i-init c = (omega arith, omega arith, refl)
 pub returns-then-not-is_known : goal.returns-then-not-is_known
 unfolding tallied pick
 returns-then-not-is_known c =
-    let unknown : known c.args.n (get_or c.args.trace.now c.loop-i.i 0) ≡ false = sym c.is_Known.ensures ∙ c.if-not-is_known.true in
+    let unknown : known c.args.n (get_or c.args.trace.now c.loop-i.i 0) ≡ false = sym c.is_known.ensures ∙ c.if-not-is_known.true in
     let refused : all_known c.args.n c.args.trace.now ≡ false
     = sym c.loop-i.invariant.2 ∙ rw unknown at (at-known c.args.n c.args.trace.now c.loop-i.i c.loop-i-test.true) in
     rw refused
@@ -29,7 +29,7 @@ returns-then-not-is_known c =
 pub loop-i-preserved : goal.loop-i-preserved
 loop-i-preserved c =
     let must : ℕ → ℕ → Bool = barred c.args.n c.args.w.now in
-    let named : known c.args.n (get_or c.args.trace.now c.loop-i.i 0) ≡ true = sym c.is_Known.ensures ∙ c.if-not-is_known.false in
+    let named : known c.args.n (get_or c.args.trace.now c.loop-i.i 0) ≡ true = sym c.is_known.ensures ∙ c.if-not-is_known.false in
     let rest : ℕ → ℕ = λ a. length (cleaned must c.args.n (c.loop-i.i + 1) a (drop (c.loop-i.i + 1) c.args.trace.now)) in (
       ⊎_elim (λ w. omega arith) (λ w. omega arith) c.if-must_clean.branch,
       ⊎_elim
