@@ -20,30 +20,31 @@ use Rattle.cleaning.specs.Scan.{first, barred, scanned, following, pasted}
 opened : (tr : List ℕ) (i : ℕ) → i < length tr → drop i tr ≡ get_or tr i 0 ∷ drop (i + 1) tr
 opened tr i l = rw (add-one, drop-cons tr i 0)
 
--- n cleanings from place k on: c, and after each one what F says follows it.
-abbrev pub stored : (Cleaning → Cleaning) → ℕ → ℕ → Cleaning → List Cleaning → List Cleaning
-stored F zero k c ys = ys
-stored F (suc n) k c ys = stored F n (k + 1) (F c) (set ys k c)
-
 -- F says of each cleaning what follows it.
 abbrev Chained : (Cleaning → Cleaning) → List Cleaning → Type 0
 Chained F [] = Unit {0}
 Chained F (c ∷ cs) = (F c ≡ first cs) × Chained F cs
 
--- One stored, and what is stored after it.
-one_more : (k n : ℕ) (c : Cleaning) (cs ys : List Cleaning) → k < length ys → take (k + 1) (set ys k c) ++ (cs ++ drop ((k + 1) + n) (set ys k c)) ≡ take k ys ++ (c ∷ (cs ++ drop (k + suc n) ys))
-one_more k n c cs ys l =
-    let sums : (k + 1) + n ≡ k + suc n = omega arith in
-    let past : k < k + suc n = omega arith in
-    rw (sums, add-one, take-suc-set, drop-set-lt, append_assoc)
+-- F gives what stands behind place k.
+chained_at : (F : Cleaning → Cleaning) (k : ℕ) (cs : List Cleaning) → Chained F cs → k < length cs → F (first (drop k cs)) ≡ first (drop (suc k) cs)
+chained_at F k [] ch l = absurd (omega arith)
+chained_at F zero (c ∷ cs) ch l = ch.0
+chained_at F (suc k) (c ∷ cs) ch l = chained_at F k cs ch.1 (omega arith)
 
-stored_is : (F : Cleaning → Cleaning) (n k : ℕ) (cs ys : List Cleaning) → Chained F cs → n ≤ length cs → k + n ≤ length ys → stored F n k (first cs) ys ≡ take k ys ++ (take n cs ++ drop (k + n) ys)
-stored_is F zero k cs ys ch l l' = rw add-zero (sym (take-append-drop k ys))
-stored_is F (suc n) k [] ys ch l l' = absurd (omega arith)
-stored_is F (suc n) k (c ∷ cs) ys ch l l' =
-    ap (λ (d : Cleaning). stored F n (k + 1) d (set ys k c)) ch.0
-    ∙ stored_is F n (k + 1) cs (set ys k c) ch.1 (omega arith) (subst (λ (m : ℕ). (k + 1) + n ≤ m) (sym (length-set ys k c)) (omega arith))
-    ∙ one_more k n c (take n cs) ys (omega arith)
+-- The cleaning of place k, stored behind the first k.
+stored : (k : ℕ) (cs ys : List Cleaning) → k < length cs → k < length ys → set (take k cs ++ drop k ys) k (first (drop k cs)) ≡ take (suc k) cs ++ drop (suc k) ys
+stored k [] ys l m = absurd (omega arith)
+stored k (c ∷ cs) [] l m = absurd (omega arith)
+stored zero (c ∷ cs) (y ∷ ys) l m = refl
+stored (suc k) (c ∷ cs) (y ∷ ys) l m = ap (◌∷◌ c) (stored k cs ys (omega arith) (omega arith))
+
+pub pasted_none : (cs ys : List Cleaning) → ys ≡ pasted 0 cs ys
+unfolding pasted
+pasted_none cs ys = refl
+
+pub pasted_more : (k : ℕ) (cs ys zs : List Cleaning) (c : Cleaning) → k < length cs → k < length ys → zs ≡ pasted k cs ys → c ≡ first (drop k cs) → set zs k c ≡ pasted (k + 1) cs ys
+unfolding pasted
+pasted_more k cs ys zs c l m e f = rw (e, f, add-one) (stored k cs ys l m)
 
 -- A byte that is to be cleaned at is a thread's: so who last ran after it is that thread.
 barred-runs : (n : ℕ) (w : List ℕ) (a b : ℕ) → barred n w a b ≡ true → latest n a b ≡ b
@@ -63,12 +64,10 @@ chained n w tr (b ∷ bs) j a e =
     (λ m. (ap (λ (l : List ℕ). first (after b l)) rest ∙ ap (λ (x : ℕ). first (after x bs)) (sym (barred-runs n w a b m)), more))
     (λ m. more)
 
-pub filled : (n : ℕ) (w tr : List ℕ) (m : ℕ) (ys : List Cleaning) (c : Cleaning) → m ≤ length ys → m ≤ length (scanned n w tr) → c ≡ first (scanned n w tr)
-    → stored (following n w tr) m 0 c ys ≡ pasted m (scanned n w tr) ys
-unfolding scanned pasted
-filled n w tr m ys c l l' starts =
-    ap (λ (d : Cleaning). stored (following n w tr) m 0 d ys) starts
-    ∙ stored_is (following n w tr) m 0 (cleaned (barred n w) n 0 nobody tr) ys (chained n w tr tr 0 nobody refl) l' (omega arith) ∙ rw zero-add
+-- What follows the cleaning of place k of a scan.
+pub followed : (n : ℕ) (w tr : List ℕ) (k : ℕ) (c : Cleaning) → k < length (scanned n w tr) → c ≡ first (drop k (scanned n w tr)) → following n w tr c ≡ first (drop (k + 1) (scanned n w tr))
+unfolding scanned
+followed n w tr k c l e = rw (e, add-one) (chained_at (following n w tr) k (cleaned (barred n w) n 0 nobody tr) (chained n w tr tr 0 nobody refl) l)
 
 -- At one byte of the trace.
 module _ (must : ℕ → ℕ → Bool) (n : ℕ) (tr : List ℕ) (i a : ℕ) (l : i < length tr) where

@@ -1,7 +1,6 @@
 -- `cleaning::tally` meets its contract: what is counted and what is left are all, and the answer for the rest of the bytes is the answer for all of them.
 use mathlib.Core.Path.{◌≡◌, refl, sym, ◌∙◌, ap}
 use mathlib.Core.Bool.{Bool, true, false}
-use mathlib.Core.Logic.{⊎_elim}
 use native.Mathlib.Omega.{arith}
 use Prim.Native.Nat.{ℕ, ◌+◌, ◌-◌, ◌≤◌}
 use lib.ListN.{length, get_or, drop}
@@ -13,6 +12,7 @@ use Rattle.cleaning.specs.Scan.{barred, scanned, tallied}
 use Rattle.cleaning.specs.declared.Report.TheVariants.{Cleaned}
 use Rattle.cleaning.proofs.ScanLaws.{at-due, at_none, at_end, at-known, known_end}
 use Rattle.cleaning.proofs.tally.Goals as goal
+use Rattle.cleaning.proofs.tally.Goals.{then-must_clean, else-must_clean}
 
 pub loop-i-init : goal.loop-i-init
 unfolding scanned
@@ -21,7 +21,7 @@ loop-i-init c = (omega arith, omega arith, refl)
 pub returns-then-not-is_known : goal.returns-then-not-is_known
 unfolding tallied pick
 returns-then-not-is_known c =
-    let unknown : known c.args.n (get_or c.args.trace.now c.loop-i.i 0) ≡ false = sym c.is_Known.ensures ∙ c.if-not-is_known.true in
+    let unknown : known c.args.n (get_or c.args.trace.now c.loop-i.i 0) ≡ false = sym c.is_known.ensures ∙ c.if-not-is_known.true in
     let refused : all_known c.args.n c.args.trace.now ≡ false
     = sym c.loop-i.invariant.2 ∙ rw unknown at (at-known c.args.n c.args.trace.now c.loop-i.i c.loop-i-test.true) in
     rw refused
@@ -29,13 +29,13 @@ returns-then-not-is_known c =
 pub loop-i-preserved : goal.loop-i-preserved
 loop-i-preserved c =
     let must : ℕ → ℕ → Bool = barred c.args.n c.args.w.now in
-    let named : known c.args.n (get_or c.args.trace.now c.loop-i.i 0) ≡ true = sym c.is_Known.ensures ∙ c.if-not-is_known.false in
+    let named : known c.args.n (get_or c.args.trace.now c.loop-i.i 0) ≡ true = sym c.is_known.ensures ∙ c.if-not-is_known.false in
     let rest : ℕ → ℕ = λ a. length (cleaned must c.args.n (c.loop-i.i + 1) a (drop (c.loop-i.i + 1) c.args.trace.now)) in (
-      ⊎_elim (λ w. omega arith) (λ w. omega arith) c.if-must_clean.branch,
-      ⊎_elim
-          (λ w. omega (arith, ap rest c.latest_of-a.ensures, c.loop-i.invariant.1, ap length (at-due must c.args.n c.args.trace.now c.loop-i.i c.loop-i.a c.loop-i-test.true (sym c.must_clean.ensures ∙ w.0.taken))))
-          (λ w. omega (arith, ap rest c.latest_of-a.ensures, c.loop-i.invariant.1, ap length (at_none must c.args.n c.args.trace.now c.loop-i.i c.loop-i.a c.loop-i-test.true (sym c.must_clean.ensures ∙ w.0.left))))
-          c.if-must_clean.branch,
+      elim c.if-must_clean.branch [ then-must_clean w ↦ omega arith | else-must_clean w ↦ omega arith ],
+      elim c.if-must_clean.branch [
+        | then-must_clean w ↦ omega (arith, ap rest c.latest_of-a.ensures, c.loop-i.invariant.1, ap length (at-due must c.args.n c.args.trace.now c.loop-i.i c.loop-i.a c.loop-i-test.true (sym c.must_clean.ensures ∙ w.if-must_clean.true)))
+        | else-must_clean w ↦ omega (arith, ap rest c.latest_of-a.ensures, c.loop-i.invariant.1, ap length (at_none must c.args.n c.args.trace.now c.loop-i.i c.loop-i.a c.loop-i-test.true (sym c.must_clean.ensures ∙ w.if-must_clean.false)))
+      ],
       sym (rw named at (at-known c.args.n c.args.trace.now c.loop-i.i c.loop-i-test.true)) ∙ c.loop-i.invariant.2,
     )
 

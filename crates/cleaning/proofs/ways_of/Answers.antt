@@ -11,12 +11,11 @@ pub loop-i-init : goal.loop-i-init
 loop-i-init c = (omega arith, refl, begun-none _ _)
 
 pub loop-i-preserved : goal.loop-i-preserved
-loop-i-preserved c =
-    (
-      omega arith,
-      simp length-set c.loop-i.invariant.1,
-      begun-next c.args.t c.loop-i.w c.loop-i.i _ c.row.result c.loop-i.invariant.1 (omega arith) refl c.row.ensures c.loop-i.invariant.2,
-    )
+loop-i-preserved c = (
+  omega arith,
+  simp length-set c.loop-i.invariant.1,
+  begun-next c.args.t c.loop-i.w c.loop-i.i _ c.row.result c.loop-i.invariant.1 (omega arith) refl c.row.ensures c.loop-i.invariant.2,
+)
 
 pub returns : goal.returns
 returns c = begun_all _ _ _ c.loop-i-test.false c.loop-i.invariant.2

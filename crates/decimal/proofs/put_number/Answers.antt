@@ -19,14 +19,13 @@ bounds-buf-k c =
     omega (arith, c.loop-k.invariant.1, c.loop-k.invariant.2, c.requires.fits, c.places.ensures, c.loop-k-test.true)
 
 pub loop-k-preserved : goal.loop-k-preserved
-loop-k-preserved c =
-    (
-      omega arith,
-      omega (arith, c.loop-k.invariant.1),
-      length-set c.loop-k.buf (c.loop-k.k - 1) c.last_digit.result ∙ c.loop-k.invariant.2,
-      ap (λ (d : ℕ). sets (set c.loop-k.buf (c.loop-k.k - 1) d) c.args.at (last_digits (c.loop-k.k - 1 - c.args.at) (c.loop-k.rest / 10))) c.last_digit.ensures
-          ∙ digit-put c.loop-k.buf c.args.at c.loop-k.k c.loop-k.rest c.loop-k-test.true ∙ c.loop-k.invariant.3,
-    )
+loop-k-preserved c = (
+  omega arith,
+  omega (arith, c.loop-k.invariant.1),
+  length-set c.loop-k.buf (c.loop-k.k - 1) c.last_digit.result ∙ c.loop-k.invariant.2,
+  ap (λ (d : ℕ). sets (set c.loop-k.buf (c.loop-k.k - 1) d) c.args.at (last_digits (c.loop-k.k - 1 - c.args.at) (c.loop-k.rest / 10))) c.last_digit.ensures
+      ∙ digit-put c.loop-k.buf c.args.at c.loop-k.k c.loop-k.rest c.loop-k-test.true ∙ c.loop-k.invariant.3,
+)
 
 pub returns : goal.returns
 returns c =

@@ -16,7 +16,7 @@ loop-i-init c = (search rules, every-none _, kept-none _)
 
 -- What `place_is_legal` answers of a place of the table.
 judged : (c : After-place_is_legal)
-    → 
+    →
     c.place_is_legal.result ≡ place_legal c.args.t c.loop-i.i
 unfolding place_legal
 judged c =

@@ -15,41 +15,41 @@ pub returns-then-not-in_range : goal.returns-then-not-in_range
 unfolding legal
 returns-then-not-in_range c = rw (sym c.in_range.ensures ∙ c.if-not-in_range.true)
 
--- What has passed when the next test is asked.
-version-passes : (c : Else-not-in_range) → within versions c.args.t.version ≡ true
-version-passes c = sym c.in_range.ensures ∙ c.if-not-in_range.false
-
-domains-pass : (c : Else-not-in_range-2) → within domain_counts c.args.t.domains ≡ true
-domains-pass c = sym c.in_range-2.ensures ∙ c.if-not-in_range-2.false
-
-count-passes : (c : Else-not-in_range-3) → within thread_counts c.args.t.count ≡ true
-count-passes c = sym c.in_range-3.ensures ∙ c.if-not-in_range-3.false
-
 pub returns-then-not-in_range-2 : goal.returns-then-not-in_range-2
 unfolding legal
-returns-then-not-in_range-2 c = rw (version-passes (goal.at.returns-then-not-in_range-2 c).Else-not-in_range, sym c.in_range-2.ensures ∙ c.if-not-in_range-2.true)
+returns-then-not-in_range-2 c =
+    rw (sym c.in_range.ensures ∙ c.if-not-in_range.false, sym c.in_range-2.ensures ∙ c.if-not-in_range-2.true)
 
 pub returns-then-not-in_range-3 : goal.returns-then-not-in_range-3
 unfolding legal
 returns-then-not-in_range-3 c =
-    rw (version-passes (goal.at.returns-then-not-in_range-3 c).Else-not-in_range, domains-pass (goal.at.returns-then-not-in_range-3 c).Else-not-in_range-2, sym c.in_range-3.ensures ∙ c.if-not-in_range-3.true)
+    rw (
+      sym c.in_range.ensures ∙ c.if-not-in_range.false,
+      sym c.in_range-2.ensures ∙ c.if-not-in_range-2.false,
+      sym c.in_range-3.ensures ∙ c.if-not-in_range-3.true,
+    )
 
 pub returns-then-not-rows_are_legal : goal.returns-then-not-rows_are_legal
 unfolding legal
 returns-then-not-rows_are_legal c =
-    rw (version-passes (goal.at.returns-then-not-rows_are_legal c).Else-not-in_range, domains-pass (goal.at.returns-then-not-rows_are_legal c).Else-not-in_range-2, count-passes (goal.at.returns-then-not-rows_are_legal c).Else-not-in_range-3, sym c.rows_are_legal.ensures ∙ c.if-not-rows_are_legal.true)
+    rw (
+      sym c.in_range.ensures ∙ c.if-not-in_range.false,
+      sym c.in_range-2.ensures ∙ c.if-not-in_range-2.false,
+      sym c.in_range-3.ensures ∙ c.if-not-in_range-3.false,
+      sym c.rows_are_legal.ensures ∙ c.if-not-rows_are_legal.true,
+    )
 
 -- Once the ranges and the rows have passed, what is left of the test.
 left : (c : After-first_gap-gap)
-    → 
+    →
     legal c.args.t ≡ and (is_nothing (sought c.first_gap-gap.result)) (every 32 (place_legal c.args.t))
 unfolding legal
 left c =
     let t : Table = c.args.t in
     rw (
-      version-passes c.before?Else-not-in_range,
-      domains-pass c.before?Else-not-in_range-2,
-      count-passes c.before?Else-not-in_range-3,
+      sym c.in_range.ensures ∙ c.if-not-in_range.false,
+      sym c.in_range-2.ensures ∙ c.if-not-in_range-2.false,
+      sym c.in_range-3.ensures ∙ c.if-not-in_range-3.false,
       sym c.rows_are_legal.ensures ∙ c.if-not-rows_are_legal.false,
       gap-sought c.first_gap-gap.result (first_gap t.rows t.domains) c.first_gap-gap.ensures,
     )

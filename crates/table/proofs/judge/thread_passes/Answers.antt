@@ -32,12 +32,11 @@ returns-then-not-in_range c =
     c.loop-k-test.true))
 
 pub loop-k-preserved : goal.loop-k-preserved
-loop-k-preserved c =
-    (
-      search rules,
-      every-next _ _ c.loop-k.invariant.1
-          (field-test _ _ _ _ _ _ _ c.fields-vs.ensures c.field_ranges-ranges.ensures (sym c.in_range.ensures ∙ c.if-not-in_range.false)),
-    )
+loop-k-preserved c = (
+  search rules,
+  every-next _ _ c.loop-k.invariant.1
+      (field-test _ _ _ _ _ _ _ c.fields-vs.ensures c.field_ranges-ranges.ensures (sym c.in_range.ensures ∙ c.if-not-in_range.false)),
+)
 
 pub returns : goal.returns
 unfolding thread_ok

@@ -28,7 +28,7 @@ hidden-same t i j =
     (λ e. by_test (flows t.rows (thread t i).domain (thread t j).domain) (λ f. simp (e, f)) (λ f. simp (e, f)))
 
 hidden : (c : After-hides)
-    → 
+    →
     c.hides.result ≡ hidden_below c.args.t c.args.i c.loop-j.j
 hidden c = (rw c.row-flow.ensures at c.hides.ensures) ∙ hidden-same _ _ _
 
