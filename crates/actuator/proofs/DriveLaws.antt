@@ -1,23 +1,21 @@
 -- What follows a step, by what it gave: one law for each way through the refusals; and a step tells 0 with an answer only.
 use Prim.Native.Nat.{ℕ, ◌≤◌, ◌<◌}
-use mathlib.Core.Path.{◌≡◌, refl, sym, ◌∙◌, ap}
-use mathlib.Core.Bool.{Bool, true, false}
+use mathlib.Core.Path.{◌≡◌, sym, ◌∙◌, ap}
+use mathlib.Core.Bool.{true, false}
 use native.Mathlib.Omega.{arith}
 use borrow.Author.Tests.{lt-ltb, le-ltb, ne_eqb}
 use lib.ListN.{length}
-use lib.Dec.{eqb, ltb}
 use lib.IntN.{ℤ}
 use Rattle.basis.specs.Tests.{pick}
 use Rattle.basis.specs.Told.{Told, answered, refused}
 use Rattle.basis.proofs.TestLaws.{both_ways}
 use Rattle.table.specs.declared.Table.{Table}
 use Rattle.walk.specs.Step.{Input, step}
-use Rattle.scheduler.specs.Taken.{Taken, values, told, took, taken}
+use Rattle.scheduler.specs.Taken.{Taken, values, told, taken}
 use Rattle.scheduler.specs.declared.Outcome.{Outcome}
 use Rattle.scheduler.specs.declared.Outcome.TheVariants.{Chose, Refused}
 use mathlib.Core.Logic.{◌≢◌}
 use Rattle.scheduler.specs.Numbered.{Numbered, steps}
-use Rattle.scheduler.specs.Taken.{answer_of}
 use Rattle.state.specs.declared.State.{State}
 use Rattle.walk.specs.declared.Answer.{Answer}
 use Rattle.walk.specs.declared.Answer.TheVariants.{Ran, IdleFor, Idle}

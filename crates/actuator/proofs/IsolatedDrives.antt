@@ -5,15 +5,15 @@ use mathlib.Core.Path.{◌≡◌, refl, sym, ◌∙◌, ap, ap₂, subst}
 use mathlib.Core.List.{List, [], ◌∷◌, map}
 use mathlib.Core.Bool.{Bool, true, false}
 use native.Mathlib.Omega.{arith}
-use borrow.Author.Tests.{eqb-true, eqb-false, eq-eqb, ne_eqb, lt-ltb}
+use borrow.Author.Tests.{eqb-true, eqb-false, eq-eqb, lt-ltb}
 use lib.ListN.{length}
 use lib.Dec.{eqb, ltb}
 use lib.IntN.{ℤ}
 use Rattle.basis.specs.Turns.{in_turn}
 use Rattle.basis.specs.Tests.{pick, and}
-use Rattle.basis.specs.Told.{Told, answered, refused}
+use Rattle.basis.specs.Told.{Told, refused}
 use Rattle.basis.proofs.TurnLaws.{turns_same}
-use Rattle.basis.proofs.TestLaws.{by_test, either, both, both_ways, refuted, fails, and_both, and-of}
+use Rattle.basis.proofs.TestLaws.{by_test, either, both, refuted, fails, and_both, and-of}
 use Rattle.table.specs.Legal.{legal, Sized}
 use Rattle.table.specs.declared.Table.{Table}
 use Rattle.state.specs.State.{fresh}
@@ -219,6 +219,8 @@ module _ (t : Table) (mode : Mode) (ok : legal t ≡ true) (z : Sized t) (d : �
       → map (λ (r : Drove). shown_of t d (step_part r)) (drives t mode us (fresh t) a) ≡ map (λ (r : Drove). shown_of t d (step_part r)) (drives t mode vs (fresh t) a)
   unfolding drives in_turn
   still_shown a h [] [] ended = refl
+  still_shown a h [] (c ∷ vs) m = elim m [ ]
+  still_shown a h (b ∷ us) [] m = elim m [ ]
   still_shown a h (b ∷ us) (c ∷ vs) (next m more) =
       let n = still_told a h b c m in
       let u : (driven t mode b (fresh t) a).state ≡ (driven t mode c (fresh t) a).state = ap (λ (w : Drove). w.state) (still t mode b (fresh t) a h) ∙ sym (ap (λ (w : Drove). w.state) (still t mode c (fresh t) a h)) in

@@ -7,10 +7,10 @@ use native.Mathlib.Nat.{lt_of_le_of_lt, le_trans}
 use native.Mathlib.Omega.{arith}
 use borrow.Author.Tests.{ltb-true, ltb-false, lt-ltb, le-ltb, leb-true, leb-false, le-leb, lt-leb}
 use lib.Dec.{T, ltb, leb, lit<, lit≤}
-use lib.IntN.{ℤ, pos, negsuc, neg_ℤ, nat_abs, sub_ℕ, ◌+ℤ◌, ◌-ℤ◌}
+use lib.IntN.{ℤ, pos, negsuc, nat_abs, sub_ℕ, ◌+ℤ◌, ◌-ℤ◌}
 use lib.Signed.{mag, non_neg, lt_z, le_z}
-use mir.Syntax.{Width, w32, w64}
-use mir.Val.{Fits, SFits, to_z, of_z}
+use mir.Syntax.{Width, w32}
+use mir.Val.{SFits, to_z, of_z}
 use mir.ValLaws.{to_z-of_z}
 use Rattle.basis.specs.Tests.{pick, and}
 use Rattle.basis.proofs.TestLaws.{by_test, either, and_both, and-of}

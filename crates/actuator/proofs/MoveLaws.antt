@@ -1,12 +1,12 @@
 -- One move: it is at most the rate long, the distance falls by the rate or to 0, and it does not pass the command. And what a drive
 -- does to the actuator: it moves, or it is refused and stays.
-use Prim.Native.Nat.{ℕ, suc, ◌+◌, ◌-◌, ◌≤◌, ◌<◌, min}
+use Prim.Native.Nat.{ℕ, suc, ◌+◌, ◌-◌, ◌≤◌, min}
 use mathlib.Core.Path.{◌≡◌, refl, sym, ◌∙◌, ap, ap₂, subst}
-use mathlib.Core.Bool.{true, false}
+use mathlib.Core.Bool.{true}
 use mathlib.Core.Logic.{◌≢◌}
 use native.Mathlib.Nat.{le_trans}
 use native.Mathlib.Omega.{arith}
-use borrow.Author.Tests.{eqb-true, eqb-false, ltb-true, ltb-false, leb-true, le-leb}
+use borrow.Author.Tests.{eqb-false, ltb-true, ltb-false, leb-true, le-leb}
 use lib.Dec.{T, eqb, ltb, leb, leb→le, le→leb}
 use lib.IntN.{ℤ, pos, negsuc, neg_ℤ, nat_abs, ◌+ℤ◌, ◌-ℤ◌, +ℤ_invr, +ℤ_assoc, -ℤ-+ℤ_cancel}
 use lib.Signed.{le_z, ◌≤ℤ◌, ≤ℤ_refl}
@@ -21,7 +21,7 @@ use Rattle.actuator.specs.Motion.{in_range, ranged, distance, towards, way, move
 use Rattle.actuator.specs.Drive.{Brought, Drove, commanded, moved_to, follows, driven}
 use Rattle.actuator.specs.Runs.{Between}
 use Rattle.actuator.specs.declared.Actuator.{Actuator}
-use Rattle.actuator.proofs.LevelLaws.{at, sub_of, Sub, less, more, sub_far, sub_most, Level, level_of, distance-at, level_towards, towards-at, way_near, way-short, moved_in, ranged_position}
+use Rattle.actuator.proofs.LevelLaws.{at, sub_far, sub_most, Level, level_of, distance-at, level_towards, towards-at, way_near, way-short, moved_in, ranged_position}
 use Rattle.actuator.proofs.DriveLaws.{commanded_in}
 use Rattle.actuator.proofs.NumberLaws.{most-of, of-most}
 

@@ -1,11 +1,11 @@
 -- Each number of a drive is given exactly when its row of `DriveNumbered` holds, by asking the tests in turn: a refused drive
 -- hands back the very state and actuator, and neither a byte nor a command brings a refusal about.
-use Prim.Native.Nat.{ℕ, ◌≤◌, ◌<◌}
-use mathlib.Core.Path.{◌≡◌, refl, sym, ◌∙◌, ap, subst}
+use Prim.Native.Nat.{ℕ, ◌<◌}
+use mathlib.Core.Path.{◌≡◌, refl, sym, ◌∙◌, subst}
 use mathlib.Core.Bool.{Bool, true, false}
-use mathlib.Core.Logic.{◌≢◌, ◌↔◌}
+use mathlib.Core.Logic.{◌↔◌}
 use native.Mathlib.Omega.{arith}
-use borrow.Author.Tests.{eqb-true, eqb-false, ltb-true, ltb-false, eq-eqb, ne_eqb, lt-ltb, le-ltb, leb-true, le-leb}
+use borrow.Author.Tests.{eqb-true, eqb-false, ltb-true, ltb-false, ne_eqb, lt-ltb, le-ltb, leb-true, le-leb}
 use lib.ListN.{length}
 use lib.Dec.{T, eqb, ltb, leb}
 use lib.IntN.{ℤ}

@@ -1,11 +1,11 @@
 -- The promises over runs, each by induction on the calls: a refused call stands still, any other makes one move.
 use Prim.Native.Nat.{ℕ, zero, suc, ◌+◌, ◌-◌, ◌*◌, ◌≤◌, ◌<◌}
-use mathlib.Core.Path.{◌≡◌, refl, sym, ◌∙◌, ap, subst}
+use mathlib.Core.Path.{◌≡◌, sym, ◌∙◌, ap, subst}
 use mathlib.Core.List.{List, [], ◌∷◌}
 use native.Mathlib.Nat.{le_trans, mul-le-mul_right, zero-add, le_of_suc-le-suc, not-suc-le-zero}
 use native.Mathlib.Omega.{arith}
 use borrow.Author.Tests.{eq-eqb, ne_eqb, eqb-true, eqb-false}
-use lib.ListN.{length, get_or, take}
+use lib.ListN.{length, take}
 use lib.Dec.{eqb}
 use lib.IntN.{ℤ}
 use Rattle.basis.specs.Turns.{in_turn}
@@ -16,7 +16,7 @@ use Rattle.state.specs.declared.State.{State}
 use Rattle.frame.specs.Mode.{Mode}
 use Rattle.actuator.specs.Motion.{drawn, distance, moved}
 use Rattle.actuator.specs.Drive.{Brought, Drove, commanded, moved_to, follows, driven}
-use Rattle.actuator.specs.Runs.{drives, actuators, actuator_after, position_after, steps_among, RangeKept, CommandKept, RateKept, Standing, ended, next, passed, Brings, no_more, again, BroughtStands, DistanceFalls, Between, NeverOvershoots, CallBetween}
+use Rattle.actuator.specs.Runs.{drives, actuators, actuator_after, position_after, steps_among, RangeKept, CommandKept, RateKept, Standing, ended, next, passed, again, BroughtStands, DistanceFalls, Between, NeverOvershoots, CallBetween}
 use Rattle.actuator.specs.Numbered.{InRange}
 use Rattle.actuator.specs.declared.Actuator.{Actuator}
 use Rattle.actuator.proofs.LevelLaws.{moved_in, ranged_position}

@@ -2,7 +2,6 @@
 use Rattle.std.specs.Prelude.{ℕ, suc, ◌+◌, ◌-◌, ◌*◌, ◌≤◌, ◌<◌, ◌≡◌, List, [], ◌∷◌, map, true, length, get_or, take, drop, eqb, ℤ, pos, ◌≤ℤ◌}
 use Rattle.basis.specs.Tests.{pick}
 use Rattle.basis.specs.Turns.{in_turn}
-use Rattle.table.specs.Legal.{legal, Sized}
 use Rattle.table.specs.declared.Table.{Table}
 use Rattle.state.specs.State.{fresh}
 use Rattle.frame.specs.Mode.{Mode}

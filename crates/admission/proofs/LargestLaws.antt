@@ -1,5 +1,5 @@
 -- Tables that reach the largest demand, the largest prohibition time and the largest count, so that none of the numbers can be lowered.
-use Prim.Native.Nat.{ℕ, zero, suc, ◌+◌, ◌-◌, ◌≤◌, ◌<◌}
+use Prim.Native.Nat.{ℕ, zero, suc, ◌+◌, ◌≤◌, ◌<◌}
 use native.Mathlib.Omega.{arith}
 use mathlib.Core.Path.{◌≡◌, refl, ◌∙◌, ap}
 use mathlib.Core.List.{[], ◌∷◌, ◌++◌}
@@ -8,7 +8,7 @@ use lib.ListN.{length, get_or, replicate}
 use Rattle.basis.specs.Search.{listed}
 use Rattle.basis.specs.Ceil.{ceil}
 use Rattle.basis.proofs.CeilLaws.{ceil_least, ceil_covers}
-use Rattle.table.specs.Threads.{none, thread, thread_of}
+use Rattle.table.specs.Threads.{none, thread_of}
 use Rattle.table.specs.Legal.{legal}
 use Rattle.table.specs.Opened.{opened}
 use Rattle.table.specs.declared.Table.{Table}

@@ -1,5 +1,5 @@
 -- What admission needs of the quotient rounded up, from its two laws.
-use Prim.Native.Nat.{ℕ, zero, suc, ◌+◌, ◌-◌, ◌*◌, ◌≤◌, ◌<◌}
+use Prim.Native.Nat.{ℕ, zero, suc, ◌+◌, ◌*◌, ◌≤◌, ◌<◌}
 use lib.Dec.{lit<}
 use native.Mathlib.Nat.{lt_of_le_of_lt, mul-le-mul, mul-one, mul-le-mul_left, suc-mul, le_trans}
 use native.Mathlib.Decide.{dec_lt}

@@ -7,9 +7,8 @@ use mathlib.Core.List.{List, [], ◌∷◌}
 use mathlib.Core.Bool.{Bool, true, false}
 use lib.ListN.{get_or}
 use lib.Dec.{eqb}
-use Rattle.basis.specs.Tests.{pick}
 use Rattle.basis.specs.Told.{answered}
-use Rattle.basis.proofs.TestLaws.{either, both, both_ways, refuted, fails}
+use Rattle.basis.proofs.TestLaws.{either, both, refuted, fails}
 use Rattle.table.specs.Threads.{thread}
 use Rattle.table.specs.Mark.{marked, is_set}
 use Rattle.table.specs.Legal.{Legal}

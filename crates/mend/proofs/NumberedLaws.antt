@@ -10,7 +10,7 @@ use lib.Dec.{eqb}
 use lib.ListN.{length, get_or, take, drop, replicate, length-append, length-drop, take-append-drop}
 use lib.Seq.{take_at, drop_at, length-take-le, get_or-take}
 use Rattle.basis.specs.Tests.{pick}
-use Rattle.basis.specs.Search.{Sought, nothing, found, first}
+use Rattle.basis.specs.Search.{Sought, nothing, found}
 use Rattle.basis.specs.Told.{Told, answered, refused}
 use Rattle.basis.proofs.BackLaws.{undone}
 use Rattle.basis.proofs.ListLaws.{unused_by}

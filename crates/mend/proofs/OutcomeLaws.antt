@@ -7,7 +7,7 @@ use native.Mathlib.Omega.{arith}
 use borrow.Author.Tests.{le-leb, lt-leb, leb-true}
 use lib.Dec.{leb}
 use lib.ListN.{length, get_or, drop, replicate, length-append, length-replicate, get_or-eq_default}
-use Rattle.basis.specs.Tests.{pick, and}
+use Rattle.basis.specs.Tests.{pick}
 use Rattle.basis.specs.Search.{nothing, found, first}
 use Rattle.basis.specs.Told.{answered, refused}
 use Rattle.basis.proofs.ListLaws.{padded}

@@ -6,7 +6,6 @@ use mir.ValLaws.{to_z-of_z}
 use Rattle.scheduler.specs.Taken.{Taken, taken_of}
 use Rattle.actuator.specs.Drive.{follows, driven}
 use Rattle.actuator.proofs.DriveLaws.{numbers_of}
-use borrow.Author.Rules.{rules}
 use Rattle.actuator.proofs.drive.Goals as goal
 
 pub follow-requires : goal.follow-requires

@@ -1,5 +1,5 @@
 -- `actuator::start` meets its contract: the number read back from the position's bits is the position.
-use mathlib.Core.Path.{◌≡◌, ap}
+use mathlib.Core.Path.{ap}
 use lib.IntN.{ℤ}
 use mir.Syntax.{w32}
 use mir.ValLaws.{to_z-of_z}

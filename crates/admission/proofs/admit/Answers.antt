@@ -3,7 +3,6 @@ use Rattle.table.specs.Legal.{legal, Sized}
 use Rattle.table.proofs.LegalLaws.{legal_sound}
 use Rattle.basis.specs.Tests.{pick}
 use Rattle.basis.proofs.ListLaws.{long_of}
-use borrow.Author.Tests.{not-true, not-false}
 use mathlib.Core.Bool.{true}
 use mathlib.Core.Path.{◌≡◌, sym, ◌∙◌}
 use borrow.Author.Rules.{rules}
@@ -11,8 +10,8 @@ use Rattle.admission.proofs.admit.Goals as goal
 use Rattle.admission.proofs.admit.Goals.{Else-not-legal}
 
 -- A table's sizes are its type's.
-sized : (s : tie.Start) → Sized s.args.t
-sized s = record { rows = search (rules, long_of); threads = search (rules, long_of) }
+sized : (c : Else-not-legal) → Sized c.args.t
+sized c = record { rows = search (rules, long_of); threads = search (rules, long_of) }
 
 -- What the test told, once it was passed.
 lawful : (c : Else-not-legal) → legal c.args.t ≡ true
@@ -23,7 +22,7 @@ unfolding admitting bounds_given counts_given pick
 returns-then-not-legal c = let e = sym c.legal.ensures ∙ c.if-not-legal.true in (rw e, rw e, rw e)
 
 pub admit_legal-requires : goal.admit_legal-requires
-admit_legal-requires c = legal_sound _ (sized (goal.at.admit_legal-requires c).Start) (lawful c)
+admit_legal-requires c = legal_sound _ (sized c) (lawful c)
 
 pub returns : goal.returns
 unfolding admitting bounds_given counts_given pick

@@ -4,7 +4,7 @@ use Rattle.table.specs.Legal.{legal, Sized}
 use Rattle.table.proofs.LegalLaws.{legal_sound}
 use Rattle.basis.specs.Tests.{pick}
 use Rattle.basis.proofs.ListLaws.{long_of}
-use borrow.Author.Tests.{not-true, not-false, lt-ltb, le-ltb}
+use borrow.Author.Tests.{lt-ltb, le-ltb}
 use native.Mathlib.Omega.{arith}
 use mathlib.Core.Bool.{true}
 use mathlib.Core.Path.{◌≡◌, sym, ◌∙◌, ap}
@@ -13,8 +13,8 @@ use Rattle.admission.proofs.bound_of.Goals as goal
 use Rattle.admission.proofs.bound_of.Goals.{Else-not-legal}
 
 -- A table's sizes are its type's.
-sized : (s : tie.Start) → Sized s.args.t
-sized s = record { rows = search (rules, long_of); threads = search (rules, long_of) }
+sized : (c : Else-not-legal) → Sized c.args.t
+sized c = record { rows = search (rules, long_of); threads = search (rules, long_of) }
 
 -- What the first test told, once it was passed.
 lawful : (c : Else-not-legal) → legal c.args.t ≡ true
@@ -33,7 +33,7 @@ returns-then-t-i c =
 
 pub find_bound-search-requires : goal.find_bound-search-requires
 find_bound-search-requires c =
-    (legal_sound _ (sized (goal.at.find_bound-search-requires c).Start) (lawful (goal.at.find_bound-search-requires c).Else-not-legal), omega arith)
+    (legal_sound _ (sized (goal.at.find_bound-search-requires c).Else-not-legal) (lawful (goal.at.find_bound-search-requires c).Else-not-legal), omega arith)
 
 pub returns-in-At : goal.returns-in-At
 unfolding bounding count_given pick

@@ -3,7 +3,7 @@ use Rattle.table.specs.Legal.{legal, Sized}
 use Rattle.table.proofs.LegalLaws.{legal_sound}
 use Rattle.basis.specs.Tests.{pick}
 use Rattle.basis.proofs.ListLaws.{long_of}
-use borrow.Author.Tests.{not-true, not-false, lt-ltb, le-ltb}
+use borrow.Author.Tests.{lt-ltb, le-ltb}
 use native.Mathlib.Omega.{arith}
 use mathlib.Core.Bool.{true}
 use mathlib.Core.Path.{◌≡◌, sym, ◌∙◌}
@@ -12,8 +12,8 @@ use Rattle.admission.proofs.prohibition.Goals as goal
 use Rattle.admission.proofs.prohibition.Goals.{Else-not-legal}
 
 -- A table's sizes are its type's.
-sized : (s : tie.Start) → Sized s.args.t
-sized s = record { rows = search (rules, long_of); threads = search (rules, long_of) }
+sized : (c : Else-not-legal) → Sized c.args.t
+sized c = record { rows = search (rules, long_of); threads = search (rules, long_of) }
 
 -- What the first test told, once it was passed.
 lawful : (c : Else-not-legal) → legal c.args.t ≡ true
@@ -30,7 +30,7 @@ returns-then-t-l c =
 
 pub prohibition_time-requires : goal.prohibition_time-requires
 prohibition_time-requires c =
-    (legal_sound _ (sized (goal.at.prohibition_time-requires c).Start) (lawful (goal.at.prohibition_time-requires c).Else-not-legal), omega arith)
+    (legal_sound _ (sized (goal.at.prohibition_time-requires c).Else-not-legal) (lawful (goal.at.prohibition_time-requires c).Else-not-legal), omega arith)
 
 pub returns : goal.returns
 unfolding prohibiting pick

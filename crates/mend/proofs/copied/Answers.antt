@@ -1,11 +1,8 @@
 -- The first i rows are copied, and zeros stand behind them.
 use Rattle.basis.proofs.SearchLaws.{listed-none, listed_next, listed-all}
-use Rattle.basis.specs.Search.{listed}
-use lib.ListN.{length, get_or, replicate}
-use mathlib.Core.List.{◌++◌}
+use lib.ListN.{length, get_or}
 use native.Mathlib.Omega.{arith}
 use mathlib.Core.Path.{◌≡◌}
-use Prim.Native.Nat.{◌≤◌, ◌-◌}
 use borrow.Author.Rules.{rules}
 use Rattle.mend.proofs.copied.Goals as goal
 

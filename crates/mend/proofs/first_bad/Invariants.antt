@@ -1,12 +1,8 @@
 -- The first i rows passed.
-use Rattle.mend.proofs.RefusalLaws.{bad-none, bad_hit}
-use Rattle.mend.specs.Mend.{bad_at, bad_row}
-use borrow.Author.Tests.{not-true, not-false}
-use Rattle.basis.proofs.SearchLaws.{first-none, first_next, first_end, first_hit}
+use Rattle.mend.specs.Mend.{bad_at}
 use Rattle.basis.specs.Search.{nothing, first}
-use mathlib.Core.Path.{◌≡◌, sym, ◌∙◌}
-use Prim.Native.Nat.{◌≤◌, ◌-◌}
-use borrow.Author.Rules.{rules}
+use mathlib.Core.Path.{◌≡◌}
+use Prim.Native.Nat.{◌≤◌}
 use Rattle.mend.proofs.first_bad.Given as goal
 
 abbrev pub invariant-loop-i : goal.invariant-loop-i

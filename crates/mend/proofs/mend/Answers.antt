@@ -9,7 +9,6 @@ use Rattle.mend.specs.Rows.{mended, added, count}
 use Rattle.mend.specs.Mend.{full, count_ok, bad_row, sought}
 use Rattle.mend.proofs.OutcomeLaws.{count_in, count-zero, count_over, mended_wider, told-count, told_row, told-short, refused_as, done_as}
 use Rattle.mend.proofs.CountLaws.{Wider, added-count, wider_counted}
-use borrow.Author.Rules.{rules}
 use Rattle.mend.proofs.mend.Goals as goal
 use Rattle.mend.proofs.mend.Goals.{After-count_added-count, After-first_bad-fault, After-mended-ms, Else-n-gt16, Else-pairs-count, In_default}
 
@@ -22,16 +21,16 @@ searched : (c : After-first_bad-fault) → bad_row (length c.args.given.now) (fu
 searched c = sym (ap (bad_row _) c.copied-rows.ensures) ∙ sym c.first_bad-fault.ensures
 
 none-bad : (c : In_default) → bad_row (length c.args.given.now) (full c.args.given.now) ≡ nothing
-none-bad c = searched c.before?After-first_bad-fault ∙ ap sought c.in_default.is
+none-bad c = (sym (ap (bad_row _) c.copied-rows.ensures) ∙ sym c.first_bad-fault.ensures) ∙ ap sought c.in_default.is
 
 -- The rows mended, and how many pairs they have more.
-rows-mended : (c : After-mended-ms) → 
+rows-mended : (c : After-mended-ms) →
     c.mended-ms.result ≡ mended (length c.args.given.now) (full c.args.given.now)
 rows-mended c = c.mended-ms.ensures ∙ ap (mended _) c.copied-rows.ensures
 
-counted : (c : After-count_added-count) → 
+counted : (c : After-count_added-count) →
     c.count_added-count.result ≡ count (full c.args.given.now) (mended (length c.args.given.now) (full c.args.given.now)) 16
-counted c = c.count_added-count.ensures ∙ rw (c.copied-rows.ensures, rows-mended c.before?After-mended-ms)
+counted c = c.count_added-count.ensures ∙ rw (c.copied-rows.ensures, c.mended-ms.ensures ∙ ap (mended _) c.copied-rows.ensures)
 
 -- They have room.
 all_room : (c : Else-pairs-count) → length (added c.copied-rows.result c.mended-ms.result 256)

@@ -1,13 +1,13 @@
 -- `actuator::motion::draw` meets its contract: the two ends by the branches; what is left is in the range, and so fits the narrower type.
-use mathlib.Core.Path.{◌≡◌, sym, ◌∙◌, ap, subst}
+use mathlib.Core.Path.{◌≡◌, ◌∙◌, ap}
 use mathlib.Core.Bool.{true, false}
-use lib.IntN.{ℤ, pos, negsuc}
+use lib.IntN.{pos, negsuc}
 use lib.Signed.{lt_z}
 use mir.Syntax.{w32, w64}
 use mir.Val.{SFits, to_z, of_z}
 use mir.ValLaws.{to_z-of_z}
 use Rattle.basis.specs.Tests.{pick}
-use Rattle.actuator.specs.Motion.{in_range, drawn}
+use Rattle.actuator.specs.Motion.{drawn}
 use Rattle.actuator.proofs.LevelLaws.{plain, read_back, most_not_less, not_below, in_fits}
 use Rattle.actuator.proofs.motion.draw.Goals as goal
 use Rattle.actuator.proofs.motion.draw.Goals.{Else-x-gt95000, Else-x-ltminus5000}
@@ -20,7 +20,7 @@ high : (c : Else-x-gt95000) → lt_z (pos 95000) c.args.x ≡ false
 high c = plain (λ z. lt_z (pos 95000) z ≡ false) c.ranges.x c.if-x-gt95000.false
 
 narrow : (c : Else-x-gt95000) → SFits w32 c.args.x
-narrow c = in_fits (not_below c.args.x (low c.before?Else-x-ltminus5000) ∙ most_not_less (pos 95000) c.args.x ∙ rw (high c))
+narrow c = in_fits (not_below c.args.x (plain (λ z. lt_z z (negsuc 4999) ≡ false) c.ranges.x c.if-x-ltminus5000.false) ∙ most_not_less (pos 95000) c.args.x ∙ rw (high c))
 
 pub returns-then-x-ltminus5000 : goal.returns-then-x-ltminus5000
 unfolding drawn pick

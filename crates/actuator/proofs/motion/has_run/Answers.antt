@@ -1,5 +1,4 @@
 -- `actuator::motion::has_run` meets its contract: one case of the answer a branch.
-use borrow.Author.Rules.{rules}
 use Rattle.actuator.specs.Drive.{ran}
 use Rattle.actuator.proofs.motion.has_run.Goals as goal
 

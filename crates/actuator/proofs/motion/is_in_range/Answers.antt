@@ -1,7 +1,7 @@
 -- `actuator::motion::is_in_range` meets its contract: the lower end by the branch, the upper end by the answer.
 use mathlib.Core.Path.{◌≡◌, sym, ◌∙◌, ap}
 use mathlib.Core.Bool.{true, false}
-use lib.IntN.{ℤ, pos, negsuc}
+use lib.IntN.{pos, negsuc}
 use lib.Signed.{lt_z, le_z}
 use mir.Syntax.{w32}
 use mir.ValLaws.{to_z-of_z}

@@ -1,8 +1,6 @@
 -- `actuator::motion::is_ranged` meets its contract: the tests in their order.
 use mathlib.Core.Path.{◌≡◌, sym, ◌∙◌, ap}
-use mathlib.Core.Bool.{true, false}
-use borrow.Author.Rules.{rules}
-use borrow.Author.Tests.{not-true, not-false, lt-leb, le-leb}
+use borrow.Author.Tests.{lt-leb, le-leb}
 use mir.Syntax.{w32}
 use mir.ValLaws.{to_z-of_z}
 use Rattle.actuator.specs.Motion.{in_range, ranged}

@@ -1,12 +1,9 @@
 -- The bounds meet their contract. The loop's invariant: every thread before i has a bound, and these and the counts stand in the arrays.
-use Prim.Native.Nat.{suc, ◌+◌, ◌-◌, ◌≤◌}
 use mathlib.Core.Path.{◌≡◌, sym, ◌∙◌, ap}
-use mathlib.Core.List.{◌++◌}
 use native.Mathlib.Nat.{le_antisymm}
 use native.Mathlib.Numerals.{add-one}
 use native.Mathlib.Omega.{arith}
-use lib.ListN.{replicate}
-use Rattle.basis.specs.Search.{nothing, found, first, listed}
+use Rattle.basis.specs.Search.{nothing, found}
 use Rattle.basis.proofs.SearchLaws.{first-none, first_next, first_hit, first_end, listed-none, listed_next}
 use Rattle.admission.specs.Bounded.{bound, sought}
 use Rattle.admission.specs.Admit.{without_bound, first_without, bound_number, bounds_of, counts_of}

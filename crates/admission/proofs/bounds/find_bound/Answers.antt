@@ -1,27 +1,21 @@
 -- The search meets its contract. The loop's invariant: what was tried and what is left from x on are together the count, each length tried
 -- was a step further at least, no length from the budget up to x holds its demand, and deadline and period are in their ranges.
-use Prim.Native.Nat.{ℕ, suc, ◌+◌, ◌-◌, ◌≤◌, ◌<◌}
-use mathlib.Core.Path.{◌≡◌, sym, ap}
+use Prim.Native.Nat.{ℕ, ◌+◌, ◌-◌, ◌≤◌, ◌<◌}
+use mathlib.Core.Path.{sym}
 use native.Mathlib.Nat.{sub-zero, zero-add}
 use native.Mathlib.Omega.{arith}
-use lib.ListN.{length}
 use Rattle.table.specs.Threads.{thread}
-use Rattle.table.specs.Legal.{LegalThread}
 use Rattle.admission.specs.Demand.{demand}
-use Rattle.admission.specs.Tried.{most_tried, lengths_from, lengths, tried as the-tried}
-use Rattle.admission.proofs.BoundLaws.{Short, short-first, short-next, bound_at, bound-none}
+use Rattle.admission.specs.Tried.{most_tried, lengths, tried as the-tried}
+use Rattle.admission.proofs.BoundLaws.{short-first, short-next, bound_at, bound-none}
 use Rattle.admission.proofs.TriedLaws.{left-none, left-last, left-next}
 use borrow.Author.Rules.{rules}
 use Rattle.admission.proofs.bounds.find_bound.Goals as goal
 
--- What is legal of the thread.
-own : (s : tie.Start invariant-loop decreases-loop) → LegalThread s.args.t1.version s.args.t1.domains (thread s.args.t1 s.args.i)
-own s = s.requires.0.threads s.args.i s.requires.1
-
 pub loop-x-init : goal.loop-x-init
 unfolding the-tried lengths most_tried
 loop-x-init c =
-    (rw (sub-zero, zero-add), omega arith, short-first _ _, (own (goal.at.loop-x-init c).Start).deadline_high, (own (goal.at.loop-x-init c).Start).period_high)
+    (rw (sub-zero, zero-add), omega arith, short-first _ _, (c.requires.0.threads c.args.i c.requires.1).deadline_high, (c.requires.0.threads c.args.i c.requires.1).period_high)
 
 pub demand-next-requires : goal.demand-next-requires
 demand-next-requires c = (c.requires.0, c.requires.1, search rules)
@@ -47,8 +41,7 @@ loop-x-preserved c =
     )
 
 pub returns : goal.returns
-returns c =
-    (
-      sym (bound-none c.args.t c.args.i (record { short = λ y a b. c.loop-x.invariant.2 y a (omega arith) })),
-      omega (arith, c.loop-x.invariant.0, left-none c.args.t c.args.i ((thread c.args.t c.args.i).deadline - (thread c.args.t c.args.i).budget + 1 - c.loop-x.tried) c.loop-x.x c.loop-x-test.false),
-    )
+returns c = (
+  sym (bound-none c.args.t c.args.i (record { short = λ y a b. c.loop-x.invariant.2 y a (omega arith) })),
+  omega (arith, c.loop-x.invariant.0, left-none c.args.t c.args.i ((thread c.args.t c.args.i).deadline - (thread c.args.t c.args.i).budget + 1 - c.loop-x.tried) c.loop-x.x c.loop-x-test.false),
+)

@@ -1,17 +1,11 @@
 -- The search meets its contract. The loop's invariant: what was tried and what is left from x on are together the count, each length tried
 -- was a step further at least, no length from the budget up to x holds its demand, and deadline and period are in their ranges.
-use Prim.Native.Nat.{ℕ, suc, ◌+◌, ◌-◌, ◌≤◌, ◌<◌}
-use mathlib.Core.Path.{◌≡◌, sym, ap}
-use native.Mathlib.Nat.{sub-zero, zero-add}
-use native.Mathlib.Omega.{arith}
+use Prim.Native.Nat.{suc, ◌+◌, ◌-◌, ◌≤◌}
+use mathlib.Core.Path.{◌≡◌}
 use lib.ListN.{length}
 use Rattle.table.specs.Threads.{thread}
-use Rattle.table.specs.Legal.{LegalThread}
-use Rattle.admission.specs.Demand.{demand}
-use Rattle.admission.specs.Tried.{most_tried, lengths_from, lengths, tried as the-tried}
-use Rattle.admission.proofs.BoundLaws.{Short, short-first, short-next, bound_at, bound-none}
-use Rattle.admission.proofs.TriedLaws.{left-none, left-last, left-next}
-use borrow.Author.Rules.{rules}
+use Rattle.admission.specs.Tried.{lengths_from, tried as the-tried}
+use Rattle.admission.proofs.BoundLaws.{Short}
 use Rattle.admission.proofs.bounds.find_bound.Given as goal
 
 abbrev pub invariant-loop-x : goal.invariant-loop-x

@@ -4,8 +4,7 @@ use Rattle.admission.proofs.DemandLaws.{demand_partial}
 use Rattle.table.specs.Threads.{thread}
 use native.Mathlib.Nat.{le_antisymm}
 use native.Mathlib.Omega.{arith}
-use mathlib.Core.Path.{◌≡◌}
-use Prim.Native.Nat.{ℕ, ◌+◌, ◌-◌, ◌≤◌}
+use Prim.Native.Nat.{ℕ, ◌+◌}
 use borrow.Author.Rules.{rules}
 use Rattle.admission.proofs.demand.demand.Goals as goal
 

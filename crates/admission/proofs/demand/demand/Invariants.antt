@@ -1,12 +1,7 @@
-use Rattle.admission.specs.Demand.{sum, share, demand}
-use Rattle.admission.proofs.SumLaws.{sum-next}
-use Rattle.admission.proofs.DemandLaws.{demand_partial}
+use Rattle.admission.specs.Demand.{sum, share}
 use Rattle.table.specs.Threads.{thread}
-use native.Mathlib.Nat.{le_antisymm}
-use native.Mathlib.Omega.{arith}
 use mathlib.Core.Path.{◌≡◌}
-use Prim.Native.Nat.{ℕ, ◌+◌, ◌-◌, ◌≤◌}
-use borrow.Author.Rules.{rules}
+use Prim.Native.Nat.{◌+◌, ◌≤◌}
 use Rattle.admission.proofs.demand.demand.Given as goal
 
 abbrev pub invariant-loop-h : goal.invariant-loop-h

@@ -2,7 +2,6 @@ use Rattle.admission.proofs.DemandLaws.{share-above, share_other}
 use Rattle.admission.proofs.QuotientLaws.{product_fits}
 use native.Mathlib.Omega.{arith}
 use mathlib.Core.Path.{sym}
-use borrow.Author.Rules.{rules}
 use Rattle.admission.proofs.demand.share.Goals as goal
 
 pub returns-then-h-own : goal.returns-then-h-own

@@ -2,7 +2,6 @@ use Rattle.admission.specs.IdleMost.{idle_most}
 use Rattle.admission.proofs.QuotientLaws.{ceil_le}
 use Rattle.admission.proofs.IdleLaws.{idle-fits}
 use native.Mathlib.Omega.{arith}
-use borrow.Author.Rules.{rules}
 use Rattle.admission.proofs.idle.idle_within.Goals as goal
 
 pub overflow_add-result : goal.overflow_add-result

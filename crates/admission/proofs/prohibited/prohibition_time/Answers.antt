@@ -10,7 +10,7 @@ use native.Mathlib.Omega.{arith}
 use mathlib.Core.Bool.{Bool}
 use mathlib.Core.List.{List}
 use mathlib.Core.Path.{◌≡◌, ◌∙◌, ap}
-use Prim.Native.Nat.{ℕ, ◌+◌, ◌-◌, ◌≤◌}
+use Prim.Native.Nat.{ℕ, ◌+◌}
 use borrow.Author.Rules.{rules}
 use Rattle.table.specs.declared.Mark.{Mark}
 use Rattle.admission.proofs.prohibited.prohibition_time.Goals as goal
@@ -25,7 +25,7 @@ stretch-sum-requires c =
     ((c.requires.0.threads _ c.requires.1).period_low, (c.requires.0.threads _ c.loop-h-test.true).period_low)
 
 -- What the thread at hand brings, by the table's own mark.
-brought : (c : After-stretch-sum) → 
+brought : (c : After-stretch-sum) →
     c.stretch-sum.result ≡ stretch (thread c.args.t c.args.l) (marked c.args.t c.loop-h.h) (thread c.args.t c.loop-h.h)
 brought c =
     c.stretch-sum.ensures

@@ -1,9 +1,7 @@
 use Rattle.admission.proofs.ProhibitionLaws.{stretch-above, stretch_other, stretch_unmarked}
 use Rattle.admission.proofs.QuotientLaws.{product_fits}
-use borrow.Author.Tests.{not-true, not-false}
 use native.Mathlib.Omega.{arith}
 use mathlib.Core.Path.{sym}
-use borrow.Author.Rules.{rules}
 use Rattle.admission.proofs.prohibited.stretch.Goals as goal
 
 pub returns-then-not-marked : goal.returns-then-not-marked

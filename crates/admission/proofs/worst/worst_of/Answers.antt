@@ -1,5 +1,4 @@
-use Prim.Native.Nat.{ℕ, ◌+◌, ◌-◌, ◌≤◌}
-use mathlib.Core.Path.{◌≡◌}
+use Prim.Native.Nat.{◌+◌}
 use native.Mathlib.Nat.{le_antisymm}
 use native.Mathlib.Omega.{arith}
 use Rattle.admission.specs.Demand.{sum}

@@ -1,6 +1,5 @@
 -- Each branch is the case of the test that led to it.
 use Rattle.mend.specs.Grid.{by_way}
-use borrow.Author.Rules.{rules}
 use Rattle.mend.proofs.grid.by_way.Goals as goal
 
 pub returns-then-grid-a : goal.returns-then-grid-a

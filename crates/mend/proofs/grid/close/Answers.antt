@@ -2,8 +2,6 @@
 use Rattle.mend.specs.Grid.{closed}
 use native.Mathlib.Nat.{le_antisymm}
 use native.Mathlib.Numerals.{add-one}
-use mathlib.Core.Path.{◌≡◌}
-use Prim.Native.Nat.{◌≤◌, ◌-◌}
 use borrow.Author.Rules.{rules}
 use Rattle.mend.proofs.grid.close.Goals as goal
 

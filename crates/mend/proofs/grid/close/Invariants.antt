@@ -1,10 +1,7 @@
 -- The first k domains are gone by way of.
 use Rattle.mend.specs.Grid.{closed}
-use native.Mathlib.Nat.{le_antisymm}
-use native.Mathlib.Numerals.{add-one}
 use mathlib.Core.Path.{◌≡◌}
-use Prim.Native.Nat.{◌≤◌, ◌-◌}
-use borrow.Author.Rules.{rules}
+use Prim.Native.Nat.{◌≤◌}
 use Rattle.mend.proofs.grid.close.Given as goal
 
 abbrev pub invariant-loop-k : goal.invariant-loop-k

@@ -2,12 +2,10 @@
 use Rattle.mend.specs.Grid.{filled}
 use Rattle.flow.specs.Flow.{flows}
 use Rattle.basis.proofs.SearchLaws.{listed-none, listed_next}
-use Rattle.basis.specs.Search.{listed}
 use native.Mathlib.Nat.{le_antisymm}
-use lib.ListN.{replicate}
 use mathlib.Core.Bool.{false}
-use mathlib.Core.List.{◌++◌, append-nil}
-use Prim.Native.Nat.{◌/◌, ◌%◌, ◌≤◌, ◌-◌}
+use mathlib.Core.List.{append-nil}
+use Prim.Native.Nat.{◌/◌, ◌%◌}
 use mathlib.Core.Path.{◌≡◌, ◌∙◌}
 use borrow.Author.Rules.{rules}
 use Rattle.mend.proofs.grid.fill.Goals as goal

@@ -1,15 +1,11 @@
 -- The first c cells say what the rows say, and the rest are false.
-use Rattle.mend.specs.Grid.{filled}
 use Rattle.flow.specs.Flow.{flows}
-use Rattle.basis.proofs.SearchLaws.{listed-none, listed_next}
 use Rattle.basis.specs.Search.{listed}
-use native.Mathlib.Nat.{le_antisymm}
 use lib.ListN.{replicate}
 use mathlib.Core.Bool.{false}
-use mathlib.Core.List.{◌++◌, append-nil}
+use mathlib.Core.List.{◌++◌}
 use Prim.Native.Nat.{◌/◌, ◌%◌, ◌≤◌, ◌-◌}
-use mathlib.Core.Path.{◌≡◌, ◌∙◌}
-use borrow.Author.Rules.{rules}
+use mathlib.Core.Path.{◌≡◌}
 use Rattle.mend.proofs.grid.fill.Given as goal
 
 abbrev pub invariant-loop-c : goal.invariant-loop-c

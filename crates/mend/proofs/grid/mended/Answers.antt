@@ -2,7 +2,6 @@
 use mathlib.Core.Path.{◌∙◌, ap}
 use Rattle.mend.specs.Grid.{closed}
 use Rattle.mend.specs.Rows.{rows_of, mended}
-use borrow.Author.Rules.{rules}
 use Rattle.mend.proofs.grid.mended.Goals as goal
 
 -- src/grid.rt:93:1

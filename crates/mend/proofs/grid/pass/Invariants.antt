@@ -1,10 +1,7 @@
 -- The first a sources are widened.
 use Rattle.mend.specs.Grid.{passed}
-use native.Mathlib.Nat.{le_antisymm}
-use native.Mathlib.Numerals.{add-one}
 use mathlib.Core.Path.{◌≡◌}
-use Prim.Native.Nat.{◌≤◌, ◌-◌}
-use borrow.Author.Rules.{rules}
+use Prim.Native.Nat.{◌≤◌}
 use Rattle.mend.proofs.grid.pass.Given as goal
 
 abbrev pub invariant-loop-a : goal.invariant-loop-a

@@ -1,14 +1,7 @@
 -- The last n columns are read, the highest first; n bits fit.
-use Rattle.mend.proofs.BitLaws.{row_from-fits, digit_small}
-use native.Mathlib.Nat.{le_antisymm}
 use Rattle.mend.specs.Rows.{row_from}
-use mathlib.Core.Bool.{false}
-use native.Mathlib.Numerals.{add-one}
-use native.Mathlib.Omega.{arith}
 use mathlib.Core.Path.{◌≡◌}
-use Prim.Native.Nat.{◌+◌, ◌*◌, ◌≤◌, ◌-◌}
-use lib.ListN.{get_or}
-use borrow.Author.Rules.{rules}
+use Prim.Native.Nat.{◌≤◌}
 use Rattle.mend.proofs.grid.row_of.Given as goal
 
 abbrev pub invariant-loop-n : goal.invariant-loop-n

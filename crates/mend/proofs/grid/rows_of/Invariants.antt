@@ -1,13 +1,10 @@
 -- The first a rows are read.
-use Rattle.mend.specs.Rows.{row_from, rows_of}
-use Rattle.basis.proofs.SearchLaws.{listed-none, listed_next}
+use Rattle.mend.specs.Rows.{row_from}
 use Rattle.basis.specs.Search.{listed}
 use lib.ListN.{replicate}
-use mathlib.Core.List.{◌++◌, append-nil}
-use native.Mathlib.Nat.{le_antisymm}
-use mathlib.Core.Path.{◌≡◌, ◌∙◌}
+use mathlib.Core.List.{◌++◌}
+use mathlib.Core.Path.{◌≡◌}
 use Prim.Native.Nat.{◌≤◌, ◌-◌}
-use borrow.Author.Rules.{rules}
 use Rattle.mend.proofs.grid.rows_of.Given as goal
 
 abbrev pub invariant-loop-a : goal.invariant-loop-a

@@ -2,8 +2,6 @@
 use Rattle.mend.specs.Grid.{joined, widened}
 use native.Mathlib.Numerals.{add-one}
 use native.Mathlib.Nat.{le_antisymm}
-use mathlib.Core.Path.{◌≡◌}
-use Prim.Native.Nat.{◌≤◌, ◌-◌}
 use borrow.Author.Rules.{rules}
 use Rattle.mend.proofs.grid.widen.Goals as goal
 

@@ -1,10 +1,7 @@
 -- The first b targets are joined.
-use Rattle.mend.specs.Grid.{joined, widened}
-use native.Mathlib.Numerals.{add-one}
-use native.Mathlib.Nat.{le_antisymm}
+use Rattle.mend.specs.Grid.{widened}
 use mathlib.Core.Path.{◌≡◌}
-use Prim.Native.Nat.{◌≤◌, ◌-◌}
-use borrow.Author.Rules.{rules}
+use Prim.Native.Nat.{◌≤◌}
 use Rattle.mend.proofs.grid.widen.Given as goal
 
 abbrev pub invariant-loop-b : goal.invariant-loop-b

@@ -2,7 +2,6 @@
 use native.Mathlib.Nat.{le_antisymm}
 use Rattle.mend.specs.Rows.{count}
 use native.Mathlib.Numerals.{add-one}
-use Prim.Native.Nat.{◌*◌, ◌≤◌, ◌-◌}
 use native.Mathlib.Omega.{arith}
 use mathlib.Core.Path.{◌≡◌}
 use borrow.Author.Rules.{rules}

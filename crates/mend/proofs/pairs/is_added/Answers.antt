@@ -1,7 +1,6 @@
 -- Each branch is the case of the test.
 use Rattle.mend.specs.Rows.{is_added}
 use mathlib.Core.Path.{sym, ◌∙◌}
-use borrow.Author.Rules.{rules}
 use Rattle.mend.proofs.pairs.is_added.Goals as goal
 
 pub returns-then-may_flow : goal.returns-then-may_flow

@@ -1,12 +1,9 @@
 -- Of the first c pairs those added stand in the first n places, and the further places stay.
-use Rattle.mend.proofs.PairLaws.{same_long, room, put_next, number-next}
-use Rattle.mend.specs.Rows.{is_added, added}
+use Rattle.mend.specs.Rows.{added}
 use lib.ListN.{length, drop}
 use mathlib.Core.List.{◌++◌}
-use native.Mathlib.Nat.{le_antisymm}
-use mathlib.Core.Path.{◌≡◌, sym, ◌∙◌}
-use Prim.Native.Nat.{◌≤◌, ◌-◌}
-use borrow.Author.Rules.{rules}
+use mathlib.Core.Path.{◌≡◌}
+use Prim.Native.Nat.{◌≤◌}
 use Rattle.mend.proofs.pairs.list_added.Given as goal
 
 abbrev pub invariant-loop-c : goal.invariant-loop-c

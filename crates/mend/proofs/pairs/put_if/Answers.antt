@@ -2,7 +2,6 @@
 use mathlib.Core.Path.{refl}
 use Rattle.basis.specs.Tests.{pick}
 use native.Mathlib.Omega.{arith}
-use borrow.Author.Rules.{rules}
 use Rattle.mend.proofs.pairs.put_if.Goals as goal
 
 pub bounds-pairs-n : goal.bounds-pairs-n
