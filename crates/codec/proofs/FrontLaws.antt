@@ -1,31 +1,26 @@
 -- The verdict on a table is settled by its first bytes: at most three numbers, 16 rows and the fields of 32 threads are read, of at most
 -- three bytes each, and then it matters only whether one byte more is there.
-use Prim.Native.Nat.{ℕ, zero, suc, ◌+◌, ◌-◌, ◌*◌, ◌≤◌, ◌<◌, min}
-use mathlib.Core.Path.{◌≡◌, refl, ap, sym, ◌∙◌}
-use mathlib.Core.Bool.{Bool, true, false}
+use Prim.Native.Nat.{ℕ, zero, suc, ◌+◌, ◌-◌, ◌*◌, ◌≤◌, ◌<◌}
+use mathlib.Core.Path.{◌≡◌, refl, sym}
+use mathlib.Core.Bool.{Bool}
 use mathlib.Core.List.{List, [], ◌∷◌}
 use native.Mathlib.Omega.{arith}
-use native.Mathlib.Nat.{suc-mul, zero-add, suc-add}
+use native.Mathlib.Nat.{zero-add, suc-add}
 use lib.Seq.{take-nil}
-use lib.ListN.{length, take, drop, set, replicate, length-take}
-use lib.Dec.{eqb, ltb, leb}
-use borrow.Author.Tests.{eqb-true, lt-ltb, le-ltb, ltb-true, ltb-false}
-use Rattle.basis.specs.Tests.{pick}
-use Rattle.basis.specs.Search.{Sought, nothing, found}
+use lib.ListN.{length, take, drop, length-take}
+use lib.Dec.{ltb}
+use borrow.Author.Tests.{lt-ltb, le-ltb, ltb-true, ltb-false}
 use Rattle.basis.proofs.TestLaws.{by_test, both_ways}
-use Rattle.flow.specs.Flow.{row_ok}
-use Rattle.flow.specs.Gap.{Triple, first_gap}
 use Rattle.table.specs.Threads.{field_count, fields_in}
-use Rattle.table.specs.Ranges.{within, versions, domain_counts, thread_counts, field_range}
+use Rattle.table.specs.Ranges.{versions, domain_counts, thread_counts, field_range}
 use Rattle.table.specs.declared.Range.{Range}
 use Rattle.table.specs.declared.Thread.{Thread}
 use Rattle.numeral.specs.declared.Number.{Number}
-use Rattle.numeral.specs.declared.Number.TheVariants.{Value, Refused}
 use Rattle.numeral.specs.Number.{third, second, number, number_at}
 use Rattle.table.proofs.RangeLaws.{fields_in-most}
 use Rattle.reader.specs.declared.Cursor.{Cursor}
 use Rattle.reader.specs.declared.RowsRead.{RowsRead}
-use Rattle.reader.specs.Reader.{took, good, bad, number_from, judged, ranged, row_from, rows_from, free, field_from, fields_from, threads_from, ended, after_rows, version_from, domains_from, count_from, reading}
+use Rattle.reader.specs.Reader.{took, good, number_from, judged, ranged, row_from, rows_from, field_from, fields_from, threads_from, ended, after_rows, version_from, domains_from, count_from, reading}
 use Rattle.reader.proofs.ReaderLaws.{ranged_le}
 
 -- So many bytes: 826.

@@ -1,6 +1,6 @@
 -- Accepted bytes are those of the table that was read, and that table is legal: each part of the reader, where it did not
 -- refuse, stood on the bytes of what it read and found it in range.
-use Prim.Native.Nat.{ℕ, zero, suc, ◌+◌, ◌-◌, ◌≤◌, ◌<◌}
+use Prim.Native.Nat.{ℕ, zero, suc, ◌≤◌, ◌<◌}
 use mathlib.Core.Path.{◌≡◌, refl, ap, ◌∙◌}
 use mathlib.Core.Bool.{Bool, true, false}
 use mathlib.Core.List.{List, [], ◌∷◌, ◌++◌, append-nil}
@@ -31,7 +31,7 @@ use Rattle.reader.specs.declared.Cursor.{Cursor}
 use Rattle.reader.specs.declared.RowsRead.{RowsRead}
 use Rattle.reader.specs.declared.FieldsRead.{FieldsRead}
 use Rattle.reader.specs.declared.ThreadsRead.{ThreadsRead}
-use Rattle.numeral.specs.Number.{number, number_at, encode, encode_all}
+use Rattle.numeral.specs.Number.{number_at, encode, encode_all}
 use Rattle.writer.specs.Format.{row_numbers, written_fields, thread_numbers, numbers, bytes}
 use Rattle.reader.specs.Reader.{good, took, number_from, judged, ranged, row_from, rows_from, free, field_from, fields_from, threads_from, Read, accepted, refused_at, whole_or_gap, ended, after_rows, version_from, domains_from, count_from, reading}
 use Rattle.numeral.specs.NumberRules.{Bytes}
@@ -45,20 +45,20 @@ pub record NumberRead (s : List ℕ) (c r : Cursor) : Type 0 where
   pub was : c.refusal ≡ 0
   pub reads : Reads s c.next r.next (encode r.value)
 
-pub record RowsRead (s : List ℕ) (d : ℕ) (c : Cursor) (i : ℕ) (r : RowsRead) : Type 0 where
+pub record RowsSound (s : List ℕ) (d : ℕ) (c : Cursor) (i : ℕ) (r : RowsRead) : Type 0 where
   pub was : c.refusal ≡ 0
   pub reads : Reads s c.next r.cursor.next (encode_all (row_numbers r.rows i))
   pub row : (j : ℕ) → j < i → row_ok d j (get_or r.rows j 0) ≡ true
   pub long : length r.rows ≡ 16
   pub unused : (j : ℕ) → i ≤ j → get_or r.rows j 0 ≡ 0
 
-pub record FieldsRead (s : List ℕ) (x d : ℕ) (ths : List Thread) (i : ℕ) (c : Cursor) (k : ℕ) (r : FieldsRead) : Type 0 where
+pub record FieldsSound (s : List ℕ) (x d : ℕ) (ths : List Thread) (i : ℕ) (c : Cursor) (k : ℕ) (r : FieldsRead) : Type 0 where
   pub was : c.refusal ≡ 0
   pub reads : Reads s c.next r.cursor.next (encode_all (take k r.fields))
   pub ok : (j : ℕ) → j < k → field_ok x d r.fields j ≡ true
   pub unclaimed : (j : ℕ) → j < k → free ths i j (get_or r.fields j 0) ≡ true
 
-pub record ThreadsRead (s : List ℕ) (x d : ℕ) (c : Cursor) (i : ℕ) (r : ThreadsRead) : Type 0 where
+pub record ThreadsSound (s : List ℕ) (x d : ℕ) (c : Cursor) (i : ℕ) (r : ThreadsRead) : Type 0 where
   pub was : c.refusal ≡ 0
   pub reads : Reads s c.next r.cursor.next (encode_all (thread_numbers x r.threads i))
   pub ok : (j : ℕ) → j < i → thread_ok x d (get_or r.threads j none) ≡ true
@@ -138,7 +138,7 @@ module _ (s : List ℕ) (hs : Bytes s) where
       let q = ranged_sound c (field_range x d vs k) 8 (omega arith) j.0 in
       rw j.2 (q.0, q.1, j.1)
 
-  pub rows_sound : (d : ℕ) (c : Cursor) (i : ℕ) → i ≤ 16 → (rows_from s d c i).cursor.refusal ≡ 0 → RowsRead s d c i (rows_from s d c i)
+  pub rows_sound : (d : ℕ) (c : Cursor) (i : ℕ) → i ≤ 16 → (rows_from s d c i).cursor.refusal ≡ 0 → RowsSound s d c i (rows_from s d c i)
   unfolding rows_from row_numbers listed encode_all
   rows_sound d c zero l h = record {
     was = h;
@@ -149,7 +149,7 @@ module _ (s : List ℕ) (hs : Bytes s) where
   }
   rows_sound d c (suc i) l h =
       let k = row_sound d i (rows_from s d c i).cursor h in
-      let r : RowsRead s d c i (rows_from s d c i) = rows_sound d c i (omega arith) k.0.was in
+      let r : RowsSound s d c i (rows_from s d c i) = rows_sound d c i (omega arith) k.0.was in
       let v : ℕ = (row_from s d i (rows_from s d c i).cursor).value in
       let rows : List ℕ = (rows_from s d c i).rows in
       record {
@@ -161,7 +161,7 @@ module _ (s : List ℕ) (hs : Bytes s) where
       }
 
   pub fields_sound : (x d : ℕ) (ths : List Thread) (i : ℕ) (c : Cursor) (k : ℕ) → k ≤ field_count → (fields_from s x d ths i c k).cursor.refusal ≡ 0 →
-      FieldsRead s x d ths i c k (fields_from s x d ths i c k)
+      FieldsSound s x d ths i c k (fields_from s x d ths i c k)
   unfolding fields_from field_ok encode_all
   fields_sound x d ths i c zero l h = record {
     was = h;
@@ -173,7 +173,7 @@ module _ (s : List ℕ) (hs : Bytes s) where
       let vs : List ℕ = (fields_from s x d ths i c k).fields in
       let v : ℕ = (field_from s x d ths i vs k (fields_from s x d ths i c k).cursor).value in
       let f = field_sound x d ths i vs k (fields_from s x d ths i c k).cursor h in
-      let r : FieldsRead s x d ths i c k (fields_from s x d ths i c k) = fields_sound x d ths i c k (omega arith) f.0.was in
+      let r : FieldsSound s x d ths i c k (fields_from s x d ths i c k) = fields_sound x d ths i c k (omega arith) f.0.was in
       let long : length vs ≡ field_count = length_fields s x d ths i c k in
       let same : (j : ℕ) → j ≤ k → field_range x d (set vs k v) j ≡ field_range x d vs j
       = λ j m. field_range_by x d (set vs k v) vs j (λ n o. get_or-set_other vs k n v 0 (λ z. omega arith)) in
@@ -192,7 +192,7 @@ module _ (s : List ℕ) (hs : Bytes s) where
   unfolding thread_ok free
   thread_sound x d ths i c h =
       let w : ℕ = fields_in x in
-      let r : FieldsRead s x d ths i c w (fields_from s x d ths i c w) = fields_sound x d ths i c w (fields_in-most x) h in
+      let r : FieldsSound s x d ths i c w (fields_from s x d ths i c w) = fields_sound x d ths i c w (fields_in-most x) h in
       let vs : List ℕ = (fields_from s x d ths i c w).fields in
       let back : fields (thread_of vs) ≡ vs = fields_back vs (length_fields s x d ths i c w) in
       let ok : (j : ℕ) → j < field_count → field_ok x d vs j ≡ true
@@ -200,7 +200,7 @@ module _ (s : List ℕ) (hs : Bytes s) where
       (λ t. let l : w ≤ j = ltb-false j w t in unwritten_ok x d vs j l m (field_unread s x d ths i c j w l)) in
       (r.was, rw back r.reads, rw back (every-all (field_ok x d vs) field_count ok), not-true _ (r.unclaimed 1 (omega (arith, fields_in_least x))))
 
-  pub threads_sound : (x d : ℕ) (c : Cursor) (i : ℕ) → i ≤ 32 → (threads_from s x d c i).cursor.refusal ≡ 0 → ThreadsRead s x d c i (threads_from s x d c i)
+  pub threads_sound : (x d : ℕ) (c : Cursor) (i : ℕ) → i ≤ 32 → (threads_from s x d c i).cursor.refusal ≡ 0 → ThreadsSound s x d c i (threads_from s x d c i)
   unfolding threads_from thread_numbers encode_all
   threads_sound x d c zero l h = record {
     was = h;
@@ -213,7 +213,7 @@ module _ (s : List ℕ) (hs : Bytes s) where
   threads_sound x d c (suc i) l h =
       let ths : List Thread = (threads_from s x d c i).threads in
       let k = thread_sound x d ths i (threads_from s x d c i).cursor h in
-      let r : ThreadsRead s x d c i (threads_from s x d c i) = threads_sound x d c i (omega arith) k.0 in
+      let r : ThreadsSound s x d c i (threads_from s x d c i) = threads_sound x d c i (omega arith) k.0 in
       let th : Thread = thread_of (fields_from s x d ths i (threads_from s x d c i).cursor (fields_in x)).fields in
       let other : (j n : ℕ) → j ≤ i → n < j → get_or (set ths i th) n none ≡ get_or ths n none = λ j n m o. get_or-set_other ths i n th none (λ z. omega arith) in
       let free-at : (j : ℕ) → Thread → Type 0 = λ j x. taken ths j x.priority ≡ false in

@@ -2,7 +2,7 @@
 use Prim.Native.Nat.{ℕ, ◌-◌, ◌≤◌, ◌<◌}
 use mathlib.Core.Path.{◌≡◌, refl, sym, ◌∙◌, ap, subst}
 use mathlib.Core.List.{List}
-use mathlib.Core.Bool.{Bool, true, false}
+use mathlib.Core.Bool.{true}
 use mathlib.Core.Logic.{◌≢◌, ◌↔◌}
 use native.Mathlib.Omega.{arith}
 use lib.ListN.{get_or}
@@ -10,7 +10,7 @@ use lib.Dec.{eqb, ltb}
 use borrow.Author.Tests.{eq-eqb, ne_eqb, lt-ltb, le-ltb, eqb-true, eqb-false, ltb-true, ltb-false}
 use Rattle.basis.specs.Tests.{pick}
 use Rattle.basis.specs.Search.{Sought, nothing, found}
-use Rattle.basis.proofs.TestLaws.{by_test, either}
+use Rattle.basis.proofs.TestLaws.{by_test}
 use Rattle.table.specs.declared.Table.{Table}
 use Rattle.table.specs.Legal.{legal, Legal}
 use Rattle.table.specs.Mark.{Leaks, Protects, protects, mark, marks_given}

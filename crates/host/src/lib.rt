@@ -1,4 +1,4 @@
-// What the turbine's host in C calls: numbers and a byte slice, which C passes as a pointer and a length.
+// What the turbine's host is told: numbers, and a byte slice to read them from. Crate host_c exports these functions to C.
 #![tactic(auto)]
 
 ghost use Rattle.std.specs.Prelude.{◌≡◌, ◌<◌};
@@ -64,8 +64,7 @@ fn bound_number(b: Bound) -> u32
 }
 
 // The reader's verdict on the bytes: 0, or the refusal.
-#[unsafe(no_mangle)]
-pub extern "C" fn mikuzerao_verdict(bytes: &[u8]) -> u32
+pub fn mikuzerao_verdict(bytes: &[u8]) -> u32
     ensures { (result ≡ verdict bytes.now) × Bytes bytes.now }
 {
     let r = codec::read(bytes);
@@ -74,8 +73,7 @@ pub extern "C" fn mikuzerao_verdict(bytes: &[u8]) -> u32
 }
 
 // The thread that a thread's mark protects, 255 for none; 100,000 and the number on a refusal: the reader's, then 15.
-#[unsafe(no_mangle)]
-pub extern "C" fn mikuzerao_mark(bytes: &[u8], thread: u32) -> u32
+pub fn mikuzerao_mark(bytes: &[u8], thread: u32) -> u32
     ensures { (result ≡ thread_mark bytes.now thread) × Bytes bytes.now }
 {
     let r = codec::read(bytes);
@@ -92,8 +90,7 @@ pub extern "C" fn mikuzerao_mark(bytes: &[u8], thread: u32) -> u32
 }
 
 // A thread's bound, 0 for none; 100,000 and the number on a refusal: the reader's, then 15.
-#[unsafe(no_mangle)]
-pub extern "C" fn mikuzerao_bound(bytes: &[u8], thread: u32) -> u32
+pub fn mikuzerao_bound(bytes: &[u8], thread: u32) -> u32
     ensures { (result ≡ thread_bound bytes.now thread) × Bytes bytes.now }
 {
     let r = codec::read(bytes);

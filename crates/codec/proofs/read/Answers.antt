@@ -1,6 +1,5 @@
 -- What is read is the reader's; what is known of the slice says that it holds bytes.
 use Rattle.numeral.proofs.NumberLaws.{held_bytes}
-use borrow.Author.Rules.{rules}
 use Rattle.codec.proofs.read.Goals as goal
 
 pub returns : goal.returns

@@ -1,6 +1,5 @@
 use Rattle.basis.specs.Tests.{pick}
 use Rattle.host.specs.Host.{told_number}
-use borrow.Author.Rules.{rules}
 use Rattle.host.proofs.bound_number.Goals as goal
 
 pub returns-in-Within : goal.returns-in-Within

@@ -7,7 +7,6 @@ use Rattle.table.proofs.MarkLaws.{marks_length}
 use Rattle.host.specs.Host.{mark_number}
 use Rattle.host.proofs.HostLaws.{number_by}
 use mathlib.Core.Path.{sym}
-use borrow.Author.Rules.{rules}
 use Rattle.host.proofs.mark_number.Goals as goal
 
 pub returns-then-i-ge32 : goal.returns-then-i-ge32

@@ -1,10 +1,8 @@
 use mathlib.Core.Path.{◌≡◌, sym, ap, ◌∙◌}
-use native.Mathlib.Omega.{arith}
 use Rattle.numeral.specs.NumberRules.{Bytes}
 use Rattle.reader.specs.Reader.{Read, reading}
 use Rattle.host.specs.Host.{verdict, refusal, thread_bound, bound_number}
 use Rattle.host.proofs.HostLaws.{unread, lacking, answering}
-use borrow.Author.Rules.{rules}
 use Rattle.host.proofs.mikuzerao_bound.Goals as goal
 use Rattle.host.proofs.mikuzerao_bound.Goals.{After-number_of-why}
 

@@ -1,7 +1,6 @@
 use mathlib.Core.Path.{ap, ◌∙◌}
 use Rattle.reader.specs.Reader.{Read}
 use Rattle.host.specs.Host.{verdict}
-use borrow.Author.Rules.{rules}
 use Rattle.host.proofs.mikuzerao_verdict.Goals as goal
 
 pub returns : goal.returns

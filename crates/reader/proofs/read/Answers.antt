@@ -1,22 +1,12 @@
 -- `reader::read` meets its contract: the head and the rows are read, then the first gap is looked for, then the threads are read.
-use mathlib.Core.Path.{◌≡◌}
 use native.Mathlib.Omega.{arith}
 use borrow.Author.Tests.{eq-eqb, ne_eqb}
 use Rattle.basis.specs.Tests.{pick}
 use Rattle.flow.specs.Gap.{first_gap}
 use Rattle.flow.proofs.GapLaws.{gap-sought}
-use Rattle.reader.specs.Reader.{after_rows, reading}
+use Rattle.reader.specs.Reader.{after_rows}
 use Rattle.reader.proofs.ReaderLaws.{ranged_small, ranged-most, reading-is}
-use borrow.Author.Rules.{rules}
 use Rattle.reader.proofs.read.Goals as goal
-use Rattle.reader.proofs.read.Goals.{After-struct_known-4-1}
-
--- What was read after the rows, by the parts that the code has in hand.
-from-rows : (c : After-struct_known-4-1)
-    → 
-    reading c.args.s.now ≡ after_rows c.args.s.now c.read_ranged-v.result.value c.read_ranged-d.result.value c.read_ranged-n.result.value c.read_rows-r.result
-from-rows c =
-    reading-is _ _ _ _ _ c.read_ranged-v.ensures c.read_ranged-d.ensures c.read_ranged-n.ensures c.read_rows-r.ensures
 
 pub overflow_cast-version : goal.overflow_cast-version
 overflow_cast-version c = record { fits = ranged_small _ _ _ _ _ 256 c.read_ranged-v.ensures (omega arith) }
@@ -32,15 +22,15 @@ read_rows-r-requires c = ranged-most _ _ _ _ _ c.read_ranged-d.ensures
 
 pub returns-then-after-ne0 : goal.returns-then-after-ne0
 unfolding after_rows pick
-returns-then-after-ne0 c = rw (from-rows (goal.at.returns-then-after-ne0 c).After-struct_known-4-1, ne_eqb _ _ c.if-after-ne0.true) c.refused_reading.ensures
+returns-then-after-ne0 c = rw (reading-is _ _ _ _ _ c.read_ranged-v.ensures c.read_ranged-d.ensures c.read_ranged-n.ensures c.read_rows-r.ensures, ne_eqb _ _ c.if-after-ne0.true) c.refused_reading.ensures
 
 pub returns-in-At : goal.returns-in-At
 unfolding after_rows pick
-returns-in-At c = rw (from-rows (goal.at.returns-in-At c).After-struct_known-4-1, eq-eqb _ _ c.if-after-ne0.false, gap-sought c.first_gap-gap.result (first_gap c.read_rows-r.result.rows c.read_ranged-d.result.value) c.first_gap-gap.ensures, c.in-At.is) c.refused_reading-in-At.ensures
+returns-in-At c = rw (reading-is _ _ _ _ _ c.read_ranged-v.ensures c.read_ranged-d.ensures c.read_ranged-n.ensures c.read_rows-r.ensures, eq-eqb _ _ c.if-after-ne0.false, gap-sought c.first_gap-gap.result (first_gap c.read_rows-r.result.rows c.read_ranged-d.result.value) c.first_gap-gap.ensures, c.in-At.is) c.refused_reading-in-At.ensures
 
 pub read_rest-requires : goal.read_rest-requires
 read_rest-requires c = ranged-most _ _ _ _ _ c.read_ranged-n.ensures
 
 pub returns : goal.returns
 unfolding after_rows pick
-returns c = rw (from-rows (goal.at.returns c).After-struct_known-4-1, eq-eqb _ _ c.if-after-ne0.false, gap-sought c.first_gap-gap.result (first_gap c.read_rows-r.result.rows c.read_ranged-d.result.value) c.first_gap-gap.ensures, c.in_default.is) c.read_rest.ensures
+returns c = rw (reading-is _ _ _ _ _ c.read_ranged-v.ensures c.read_ranged-d.ensures c.read_ranged-n.ensures c.read_rows-r.ensures, eq-eqb _ _ c.if-after-ne0.false, gap-sought c.first_gap-gap.result (first_gap c.read_rows-r.result.rows c.read_ranged-d.result.value) c.first_gap-gap.ensures, c.in_default.is) c.read_rest.ensures

@@ -4,12 +4,10 @@ use mathlib.Core.Path.{◌≡◌, sym, ◌∙◌}
 use mathlib.Core.Bool.{true}
 use native.Mathlib.Omega.{arith}
 use lib.ListN.{length}
-use borrow.Author.Tests.{not-true, not-false}
 use Rattle.table.specs.Legal.{legal}
 use Rattle.table.proofs.LegalLaws.{legal_small}
 use Rattle.writer.specs.Format.{bytes}
 use Rattle.writer.proofs.WriterLaws.{told-bad, told-short, told-done}
-use borrow.Author.Rules.{rules}
 use Rattle.writer.proofs.write.Goals as goal
 use Rattle.writer.proofs.write.Goals.{Else-len-at-2, Else-not-legal}
 

@@ -1,6 +1,5 @@
 use Rattle.reader.specs.Reader.{free}
 use borrow.Author.Tests.{eq-eqb, ne_eqb}
-use borrow.Author.Rules.{rules}
 use Rattle.reader.proofs.parts.is_free.Goals as goal
 
 pub returns-then-k-ne1 : goal.returns-then-k-ne1

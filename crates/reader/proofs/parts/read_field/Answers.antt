@@ -1,5 +1,4 @@
 use Rattle.reader.specs.Reader.{field_from}
-use borrow.Author.Rules.{rules}
 use Rattle.reader.proofs.parts.read_field.Goals as goal
 
 pub returns : goal.returns

@@ -1,11 +1,9 @@
 use Rattle.reader.proofs.ReaderLaws.{fields-next}
-use Rattle.table.specs.Threads.{field_count, fields_in}
+use Rattle.table.specs.Threads.{fields_in}
 use Rattle.table.proofs.RangeLaws.{fields_in-most}
 use Rattle.reader.specs.Reader.{fields_from}
 use native.Mathlib.Omega.{arith}
 use mathlib.Core.Path.{◌≡◌, refl}
-use Prim.Native.Nat.{◌≤◌, ◌-◌}
-use borrow.Author.Rules.{rules}
 use Rattle.reader.proofs.parts.read_fields.Goals as goal
 
 pub loop-k-init : goal.loop-k-init

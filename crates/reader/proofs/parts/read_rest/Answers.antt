@@ -1,7 +1,6 @@
 use Rattle.basis.specs.Tests.{pick}
 use Rattle.reader.specs.Reader.{ended}
 use borrow.Author.Tests.{lt-ltb, le-ltb, eq-eqb, ne_eqb}
-use borrow.Author.Rules.{rules}
 use Rattle.reader.proofs.parts.read_rest.Goals as goal
 
 pub returns-then-after-ne0 : goal.returns-then-after-ne0

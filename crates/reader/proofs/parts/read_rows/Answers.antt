@@ -1,5 +1,4 @@
 use Rattle.reader.proofs.ReaderLaws.{rows_next}
-use Prim.Native.Nat.{◌≤◌, ◌-◌}
 use Rattle.reader.specs.Reader.{rows_from}
 use native.Mathlib.Omega.{arith}
 use mathlib.Core.Path.{◌≡◌, refl}

@@ -1,9 +1,7 @@
-use Rattle.reader.proofs.ReaderLaws.{rows_next}
-use Prim.Native.Nat.{◌≤◌, ◌-◌}
+use Prim.Native.Nat.{◌≤◌}
 use Rattle.reader.specs.Reader.{rows_from}
-use native.Mathlib.Omega.{arith}
-use mathlib.Core.Path.{◌≡◌, refl}
+use mathlib.Core.Path.{◌≡◌}
 use Rattle.reader.proofs.parts.read_rows.Given as goal
 
 abbrev pub invariant-loop-i : goal.invariant-loop-i
-invariant-loop-i l = (l.i ≤ l.domains) × (record { cursor = l.k; l.rows = l.rows } ≡ rows_from l.s l.domains l.initial.k l.i)
+invariant-loop-i l = (l.i ≤ l.domains) × (record { cursor = l.k; rows = l.rows } ≡ rows_from l.s l.domains l.initial.k l.i)

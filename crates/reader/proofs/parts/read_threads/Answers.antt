@@ -3,8 +3,6 @@ use Rattle.reader.specs.Reader.{threads_from}
 use Rattle.table.proofs.RangeLaws.{fields_in-most}
 use native.Mathlib.Omega.{arith}
 use mathlib.Core.Path.{◌≡◌}
-use Prim.Native.Nat.{◌≤◌, ◌-◌}
-use borrow.Author.Rules.{rules}
 use Rattle.reader.proofs.parts.read_threads.Goals as goal
 
 pub loop-i-init : goal.loop-i-init

@@ -1,4 +1,3 @@
-use borrow.Author.Rules.{rules}
 use Rattle.reader.proofs.parts.refused_reading.Goals as goal
 
 pub returns : goal.returns

@@ -1,7 +1,6 @@
 use Rattle.basis.specs.Tests.{pick}
 use Rattle.reader.specs.Reader.{judged}
 use borrow.Author.Tests.{eq-eqb, ne_eqb}
-use borrow.Author.Rules.{rules}
 use Rattle.reader.proofs.steps.judge.Goals as goal
 
 pub returns-then-met-ne0 : goal.returns-then-met-ne0

@@ -2,7 +2,6 @@ use Rattle.basis.specs.Tests.{pick}
 use Rattle.reader.specs.Reader.{number_from}
 use mathlib.Core.Path.{sym, ◌∙◌}
 use borrow.Author.Tests.{eq-eqb, ne_eqb}
-use borrow.Author.Rules.{rules}
 use Rattle.reader.proofs.steps.next_number.Goals as goal
 
 pub returns-then-c-ne0 : goal.returns-then-c-ne0

@@ -1,5 +1,4 @@
 use Rattle.reader.specs.Reader.{ranged}
-use borrow.Author.Rules.{rules}
 use Rattle.reader.proofs.steps.read_ranged.Goals as goal
 
 pub returns : goal.returns

@@ -1,6 +1,5 @@
 -- The three parts of a table are put one after the other.
 use Rattle.writer.proofs.WriterLaws.{put_join, put_room, room_part, bytes_parts, parts_room}
-use borrow.Author.Rules.{rules}
 use Rattle.writer.proofs.put.put_table.Goals as goal
 
 pub write_numbers-a-requires : goal.write_numbers-a-requires

@@ -4,7 +4,6 @@ use native.Mathlib.Omega.{arith}
 use native.Mathlib.Numerals.{add-one}
 use lib.ListN.{length, length-set}
 use Rattle.numeral.proofs.NumberLaws.{encode_one, encode-two, encode-three, encode-some}
-use borrow.Author.Rules.{rules}
 use Rattle.writer.proofs.put.write_number.Goals as goal
 
 pub bounds-buf-at : goal.bounds-buf-at

@@ -1,12 +1,8 @@
 -- The first i numbers are put: each turn joins the next to them.
-use Prim.Native.Nat.{◌≤◌, ◌-◌}
-use native.Mathlib.Omega.{arith}
+use Prim.Native.Nat.{◌≤◌}
 use lib.ListN.{take}
-use lib.Seq.{take_all}
 use Rattle.numeral.specs.Number.{encode_all}
 use Rattle.writer.specs.Buffer.{Put}
-use Rattle.writer.proofs.WriterLaws.{put-none, put_join, put_room, put-length, numbers-next, numbers_room}
-use borrow.Author.Rules.{rules}
 use Rattle.writer.proofs.put.write_numbers.Given as goal
 
 abbrev pub invariant-loop-i : goal.invariant-loop-i

@@ -1,13 +1,8 @@
 -- The first i rows are put: each turn joins the next to them.
-use Prim.Native.Nat.{◌≤◌, ◌-◌}
-use mathlib.Core.Path.{◌≡◌}
-use native.Mathlib.Omega.{arith}
-use Rattle.basis.specs.Search.{listed}
+use Prim.Native.Nat.{◌≤◌}
 use Rattle.numeral.specs.Number.{encode_all}
 use Rattle.writer.specs.Format.{row_numbers}
 use Rattle.writer.specs.Buffer.{Put}
-use Rattle.writer.proofs.WriterLaws.{put-none, put_join, put_room, put-length, rows_next, rows_room}
-use borrow.Author.Rules.{rules}
 use Rattle.writer.proofs.put.write_rows.Given as goal
 
 abbrev pub invariant-loop-i : goal.invariant-loop-i

@@ -1,12 +1,9 @@
 -- The first i threads are put: each turn joins the next to them.
-use Prim.Native.Nat.{◌≤◌, ◌-◌}
 use mathlib.Core.Path.{◌≡◌}
 use native.Mathlib.Omega.{arith}
 use Rattle.numeral.specs.Number.{encode_all}
 use Rattle.writer.specs.Format.{thread_numbers}
-use Rattle.writer.specs.Buffer.{Put}
 use Rattle.writer.proofs.WriterLaws.{put-none, put_join, put_room, put-length, threads_next, threads_room}
-use borrow.Author.Rules.{rules}
 use Rattle.writer.proofs.put.write_threads.Goals as goal
 
 pub loop-i-init : goal.loop-i-init

@@ -1,13 +1,10 @@
 -- The sizes of the rows add up as their bytes join.
-use Prim.Native.Nat.{◌*◌, ◌≤◌, ◌-◌}
 use mathlib.Core.Path.{◌≡◌, refl}
 use native.Mathlib.Omega.{arith}
-use lib.ListN.{length}
 use Rattle.basis.specs.Search.{listed}
 use Rattle.numeral.specs.Number.{encode_all}
 use Rattle.writer.specs.Format.{row_numbers}
 use Rattle.writer.proofs.WriterLaws.{rows-length}
-use borrow.Author.Rules.{rules}
 use Rattle.writer.proofs.size.rows_size.Goals as goal
 
 pub loop-i-init : goal.loop-i-init

@@ -1,13 +1,9 @@
 -- The sizes of the rows add up as their bytes join.
-use Prim.Native.Nat.{◌*◌, ◌≤◌, ◌-◌}
-use mathlib.Core.Path.{◌≡◌, refl}
-use native.Mathlib.Omega.{arith}
+use Prim.Native.Nat.{◌*◌, ◌≤◌}
+use mathlib.Core.Path.{◌≡◌}
 use lib.ListN.{length}
-use Rattle.basis.specs.Search.{listed}
 use Rattle.numeral.specs.Number.{encode_all}
 use Rattle.writer.specs.Format.{row_numbers}
-use Rattle.writer.proofs.WriterLaws.{rows-length}
-use borrow.Author.Rules.{rules}
 use Rattle.writer.proofs.size.rows_size.Given as goal
 
 abbrev pub invariant-loop-i : goal.invariant-loop-i

@@ -1,7 +1,6 @@
 -- The size of a table is that of its three parts.
 use native.Mathlib.Omega.{arith}
 use Rattle.writer.proofs.WriterLaws.{bytes-length}
-use borrow.Author.Rules.{rules}
 use Rattle.writer.proofs.size.table_size.Goals as goal
 
 pub returns : goal.returns

@@ -1,13 +1,12 @@
 -- The sizes of the fields add up as their bytes join.
-use Prim.Native.Nat.{◌*◌, ◌≤◌, ◌<◌, ◌-◌}
+use Prim.Native.Nat.{◌<◌}
 use mathlib.Core.Path.{◌≡◌, refl, ap}
 use native.Mathlib.Omega.{arith}
-use lib.ListN.{length, take}
-use Rattle.table.specs.Threads.{field_count, fields_in}
+use lib.ListN.{length}
+use Rattle.table.specs.Threads.{fields_in}
 use Rattle.table.proofs.RangeLaws.{fields_in-most}
 use Rattle.numeral.specs.Number.{encode_all}
 use Rattle.writer.proofs.WriterLaws.{numbers-length}
-use borrow.Author.Rules.{rules}
 use Rattle.writer.proofs.size.thread_size.Goals as goal
 
 pub loop-i-init : goal.loop-i-init

@@ -1,13 +1,9 @@
 -- The sizes of the fields add up as their bytes join.
-use Prim.Native.Nat.{◌*◌, ◌≤◌, ◌<◌, ◌-◌}
-use mathlib.Core.Path.{◌≡◌, refl, ap}
-use native.Mathlib.Omega.{arith}
+use Prim.Native.Nat.{◌*◌, ◌≤◌}
+use mathlib.Core.Path.{◌≡◌}
 use lib.ListN.{length, take}
-use Rattle.table.specs.Threads.{field_count, fields_in}
-use Rattle.table.proofs.RangeLaws.{fields_in-most}
+use Rattle.table.specs.Threads.{field_count}
 use Rattle.numeral.specs.Number.{encode_all}
-use Rattle.writer.proofs.WriterLaws.{numbers-length}
-use borrow.Author.Rules.{rules}
 use Rattle.writer.proofs.size.thread_size.Given as goal
 
 abbrev pub invariant-loop-i : goal.invariant-loop-i

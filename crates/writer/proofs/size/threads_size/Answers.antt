@@ -1,13 +1,9 @@
 -- The sizes of the threads add up as their bytes join.
-use Prim.Native.Nat.{◌*◌, ◌≤◌, ◌-◌}
 use mathlib.Core.Path.{◌≡◌, refl}
 use native.Mathlib.Omega.{arith}
-use lib.ListN.{length}
-use Rattle.table.specs.Threads.{field_count}
 use Rattle.numeral.specs.Number.{encode_all}
 use Rattle.writer.specs.Format.{thread_numbers}
 use Rattle.writer.proofs.WriterLaws.{threads_length}
-use borrow.Author.Rules.{rules}
 use Rattle.writer.proofs.size.threads_size.Goals as goal
 
 pub loop-i-init : goal.loop-i-init

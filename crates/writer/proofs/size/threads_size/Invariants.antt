@@ -1,13 +1,10 @@
 -- The sizes of the threads add up as their bytes join.
-use Prim.Native.Nat.{◌*◌, ◌≤◌, ◌-◌}
-use mathlib.Core.Path.{◌≡◌, refl}
-use native.Mathlib.Omega.{arith}
+use Prim.Native.Nat.{◌*◌, ◌≤◌}
+use mathlib.Core.Path.{◌≡◌}
 use lib.ListN.{length}
 use Rattle.table.specs.Threads.{field_count}
 use Rattle.numeral.specs.Number.{encode_all}
 use Rattle.writer.specs.Format.{thread_numbers}
-use Rattle.writer.proofs.WriterLaws.{threads_length}
-use borrow.Author.Rules.{rules}
 use Rattle.writer.proofs.size.threads_size.Given as goal
 
 abbrev pub invariant-loop-i : goal.invariant-loop-i
