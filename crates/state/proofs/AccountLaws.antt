@@ -1,6 +1,6 @@
 -- What is accounted of a thread's progress, and that every change of a step moves it by the account alone or keeps it: so what a thread
 -- says never reaches its account, which demand 3 needs.
-use Prim.Native.Nat.{ℕ, ◌+◌, ◌-◌, ◌%◌}
+use Prim.Native.Nat.{ℕ, ◌+◌}
 use mathlib.Core.Path.{◌≡◌, refl, sym, ◌∙◌, ap}
 use mathlib.Core.Bool.{Bool, false}
 use lib.Dec.{eqb, ltb, leb}

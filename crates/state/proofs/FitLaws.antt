@@ -1,15 +1,14 @@
 -- The test of a state says exactly that it fits; a fresh state fits, and a release keeps that.
 use Prim.Native.Nat.{ℕ, ◌+◌, ◌-◌, ◌≤◌, ◌<◌, zero-le}
-use mathlib.Core.Path.{◌≡◌, refl, sym, ◌∙◌, ap, subst}
-use mathlib.Core.List.{List}
+use mathlib.Core.Path.{◌≡◌, refl, ◌∙◌}
 use mathlib.Core.Bool.{Bool, true, false, not}
 use mathlib.Core.Logic.{◌≢◌}
 use native.Mathlib.Omega.{arith}
 use native.Mathlib.Nat.{le_refl}
-use borrow.Author.Tests.{lt-ltb, le-ltb, leb-true, le-leb, eq-eqb, ne_eqb, eqb-true, not-true, ltb-true, ltb-false}
+use borrow.Author.Tests.{leb-true, le-leb, eq-eqb, ne_eqb, eqb-true, not-true, ltb-true, ltb-false}
 use lib.ListN.{length, replicate, get_or-eq_default, length-append, length-replicate}
 use lib.Dec.{ltb, leb, eqb}
-use Rattle.basis.specs.Tests.{pick, and, every}
+use Rattle.basis.specs.Tests.{pick}
 use Rattle.basis.proofs.TestLaws.{by_test, either, and_both, and-of, every-at, every-all}
 use Rattle.basis.specs.Search.{listed}
 use Rattle.basis.proofs.SearchLaws.{length-listed, listed_at, listed_past}
@@ -20,7 +19,7 @@ use Rattle.table.specs.declared.Table.{Table}
 use Rattle.table.specs.declared.Thread.{Thread}
 use Rattle.state.specs.declared.Progress.{Progress}
 use Rattle.state.specs.declared.State.{State}
-use Rattle.state.specs.State.{no_progress, execution_budget, longest_since, ready, progress, fresh, last_clock, used_fits, unused_fits, place_fits, fits, PlaceFits, Fits}
+use Rattle.state.specs.State.{no_progress, execution_budget, longest_since, ready, fresh, last_clock, used_fits, unused_fits, place_fits, fits, PlaceFits, Fits}
 use Rattle.state.specs.Given.{Usable, Each}
 use Rattle.state.specs.Release.{has_event, released, release}
 use Rattle.state.specs.Methods.{aged}

@@ -17,7 +17,6 @@ use Rattle.state.specs.State.{no_progress, with_since, progress, ready, fresh, n
 use Rattle.state.specs.declared.Starting.{Starting}
 use Rattle.state.specs.declared.Starting.TheVariants.{Done, NotLegal}
 use Rattle.state.specs.declared.Started.{Started}
-use Rattle.state.specs.declared.State.{State}
 use Rattle.state.proofs.FitLaws.{longest-event, longest_periodic}
 
 -- Fresh: the clock is 0, all is zero and unmarked, and an event thread has P steps since release.

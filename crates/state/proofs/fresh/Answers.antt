@@ -1,10 +1,7 @@
-use Rattle.table.specs.Legal.{legal}
 use Rattle.table.proofs.LegalLaws.{legal_small}
 use Rattle.basis.specs.Tests.{pick}
 use Rattle.state.specs.State.{starting, fresh_given}
-use borrow.Author.Tests.{not-true, not-false}
 use mathlib.Core.Path.{sym, ◌∙◌}
-use borrow.Author.Rules.{rules}
 use Rattle.state.proofs.fresh.Goals as goal
 
 pub returns-then-not-legal : goal.returns-then-not-legal

@@ -1,11 +1,7 @@
-use Rattle.table.specs.Threads.{thread}
 use Rattle.state.specs.State.{each_thread}
-use Rattle.state.specs.Release.{has_event, released, release}
-use native.Mathlib.Omega.{arith}
+use Rattle.state.specs.Release.{release}
 use native.Mathlib.Nat.{le_antisymm}
 use native.Mathlib.Numerals.{add-one}
-use mathlib.Core.Path.{◌≡◌, refl, sym, ◌∙◌}
-use Prim.Native.Nat.{ℕ, zero, suc, ◌≤◌, ◌<◌, ◌-◌, ◌+◌}
 use borrow.Author.Rules.{rules}
 use Rattle.state.proofs.State.release.Goals as goal
 

@@ -1,12 +1,8 @@
 use Rattle.table.specs.Threads.{thread}
 use Rattle.state.specs.State.{each_thread}
-use Rattle.state.specs.Release.{has_event, released, release}
-use native.Mathlib.Omega.{arith}
-use native.Mathlib.Nat.{le_antisymm}
-use native.Mathlib.Numerals.{add-one}
-use mathlib.Core.Path.{◌≡◌, refl, sym, ◌∙◌}
-use Prim.Native.Nat.{ℕ, zero, suc, ◌≤◌, ◌<◌, ◌-◌, ◌+◌}
-use borrow.Author.Rules.{rules}
+use Rattle.state.specs.Release.{has_event, released}
+use mathlib.Core.Path.{◌≡◌}
+use Prim.Native.Nat.{◌≤◌, ◌-◌}
 use Rattle.state.proofs.State.release.Given as goal
 
 abbrev pub invariant-loop-i : goal.invariant-loop-i

@@ -1,11 +1,10 @@
-use Rattle.table.specs.Threads.{thread}
 use Rattle.state.specs.State.{each_thread}
-use Rattle.state.specs.Methods.{aged, tick}
+use Rattle.state.specs.Methods.{tick}
 use native.Mathlib.Nat.{le_antisymm}
 use native.Mathlib.Numerals.{add-one}
-use mathlib.Core.Path.{◌≡◌, ap}
+use mathlib.Core.Path.{ap}
 use Rattle.state.specs.declared.State.{State}
-use Prim.Native.Nat.{ℕ, zero, suc, ◌≤◌, ◌<◌, ◌-◌, ◌+◌}
+use Prim.Native.Nat.{◌+◌}
 use borrow.Author.Rules.{rules}
 use Rattle.state.proofs.State.tick.Goals as goal
 

@@ -1,12 +1,8 @@
 use Rattle.table.specs.Threads.{thread}
 use Rattle.state.specs.State.{each_thread}
-use Rattle.state.specs.Methods.{aged, tick}
-use native.Mathlib.Nat.{le_antisymm}
-use native.Mathlib.Numerals.{add-one}
-use mathlib.Core.Path.{◌≡◌, ap}
-use Rattle.state.specs.declared.State.{State}
-use Prim.Native.Nat.{ℕ, zero, suc, ◌≤◌, ◌<◌, ◌-◌, ◌+◌}
-use borrow.Author.Rules.{rules}
+use Rattle.state.specs.Methods.{aged}
+use mathlib.Core.Path.{◌≡◌}
+use Prim.Native.Nat.{◌≤◌, ◌-◌}
 use Rattle.state.proofs.State.tick.Given as goal
 
 abbrev pub invariant-loop-i : goal.invariant-loop-i

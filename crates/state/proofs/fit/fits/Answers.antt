@@ -1,25 +1,19 @@
 use Rattle.state.specs.State.{progress, place_fits, fits}
+use Rattle.state.specs.declared.State.{State}
+use Rattle.table.specs.declared.Table.{Table}
 use Rattle.basis.proofs.TestLaws.{and-false, every-none, every-next, every_fails}
-use Rattle.basis.specs.Tests.{every}
 use lib.Dec.{leb}
-use borrow.Author.Tests.{lt-leb, le-leb, not-true, not-false}
-use Prim.Native.Nat.{ℕ, ◌≤◌, ◌-◌}
-use mathlib.Core.Bool.{Bool, true, false}
+use borrow.Author.Tests.{lt-leb, le-leb}
+use Prim.Native.Nat.{ℕ}
+use mathlib.Core.Bool.{Bool, false}
 use mathlib.Core.Path.{◌≡◌, sym, ◌∙◌}
 use native.Mathlib.Nat.{le_antisymm}
 use borrow.Author.Rules.{rules}
 use Rattle.state.proofs.fit.fits.Goals as goal
-use Rattle.state.proofs.fit.fits.Goals.{After-place_fits}
 
 -- The test of one place, in a turn.
-abbrev test : tie.In-loop invariant-loop decreases-loop → ℕ → Bool
-test l j = place_fits l.before.before.before.args.t1 l.before.before.before.args.t2.clock j (progress l.before.before.before.args.t2 j)
-
-judged : (c : After-place_fits)
-    → 
-    c.place_fits.result ≡ test c.before?In-loop-i c.loop-i.i
-unfolding place_fits
-judged c = c.place_fits.ensures
+abbrev test : Table → State → ℕ → Bool
+test t s j = place_fits t s.clock j (progress s j)
 
 pub returns-then-clock-gt1000000000 : goal.returns-then-clock-gt1000000000
 unfolding fits
@@ -29,14 +23,15 @@ pub loop-i-init : goal.loop-i-init
 loop-i-init c = (search rules, every-none _)
 
 pub returns-then-not-place_fits : goal.returns-then-not-place_fits
-unfolding fits
+unfolding fits place_fits
 returns-then-not-place_fits c =
-    let e : test (goal.at.returns-then-not-place_fits c).In-loop-i c.loop-i.i ≡ false = sym (judged (goal.at.returns-then-not-place_fits c).After-place_fits) ∙ c.if-not-place_fits.true in
-    simp (every_fails (test (goal.at.returns-then-not-place_fits c).In-loop-i) c.loop-i.i 32 e c.loop-i-test.true) (sym (and-false (leb c.args.s.clock 1000000000)))
+    let e : test c.args.t c.args.s c.loop-i.i ≡ false = sym c.place_fits.ensures ∙ c.if-not-place_fits.true in
+    simp (every_fails (test c.args.t c.args.s) c.loop-i.i 32 e c.loop-i-test.true) (sym (and-false (leb c.args.s.clock 1000000000)))
 
 pub loop-i-preserved : goal.loop-i-preserved
+unfolding place_fits
 loop-i-preserved c =
-    (search rules, every-next (test (goal.at.loop-i-preserved c).In-loop-i) c.loop-i.i c.loop-i.invariant.1 (sym (judged (goal.at.loop-i-preserved c).After-place_fits) ∙ c.if-not-place_fits.false))
+    (search rules, every-next (test c.args.t c.args.s) c.loop-i.i c.loop-i.invariant.1 (sym c.place_fits.ensures ∙ c.if-not-place_fits.false))
 
 pub returns : goal.returns
 unfolding fits

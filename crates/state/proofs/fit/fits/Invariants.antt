@@ -1,13 +1,8 @@
-use Rattle.state.specs.State.{progress, place_fits, fits}
-use Rattle.basis.proofs.TestLaws.{and-false, every-none, every-next, every_fails}
+use Rattle.state.specs.State.{progress, place_fits}
 use Rattle.basis.specs.Tests.{every}
-use lib.Dec.{leb}
-use borrow.Author.Tests.{lt-leb, le-leb, not-true, not-false}
-use Prim.Native.Nat.{ℕ, ◌≤◌, ◌-◌}
-use mathlib.Core.Bool.{Bool, true, false}
-use mathlib.Core.Path.{◌≡◌, sym, ◌∙◌}
-use native.Mathlib.Nat.{le_antisymm}
-use borrow.Author.Rules.{rules}
+use Prim.Native.Nat.{◌≤◌, ◌-◌}
+use mathlib.Core.Bool.{true}
+use mathlib.Core.Path.{◌≡◌}
 use Rattle.state.proofs.fit.fits.Given as goal
 
 abbrev pub invariant-loop-i : goal.invariant-loop-i

@@ -1,5 +1,4 @@
 use Rattle.basis.specs.Tests.{pick}
-use borrow.Author.Rules.{rules}
 use Rattle.state.proofs.fit.place_fits.Goals as goal
 
 pub returns-then-used : goal.returns-then-used

@@ -1,6 +1,5 @@
 use Rattle.state.specs.State.{unused_fits}
 use borrow.Author.Tests.{eq-eqb, ne_eqb}
-use borrow.Author.Rules.{rules}
 use Rattle.state.proofs.fit.unused_fits.Goals as goal
 
 pub returns-then-p-ne0 : goal.returns-then-p-ne0

@@ -1,6 +1,5 @@
 use Rattle.state.specs.State.{used_fits}
 use borrow.Author.Tests.{lt-leb, le-leb}
-use borrow.Author.Rules.{rules}
 use Rattle.state.proofs.fit.used_fits.Goals as goal
 
 pub returns-then-th-p : goal.returns-then-th-p

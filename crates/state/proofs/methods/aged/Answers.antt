@@ -1,7 +1,6 @@
 use Rattle.basis.specs.Tests.{pick}
 use Rattle.state.specs.Methods.{aged}
 use borrow.Author.Tests.{lt-ltb, le-ltb}
-use borrow.Author.Rules.{rules}
 use Rattle.state.proofs.methods.aged.Goals as goal
 
 pub returns-then-p-longest_since : goal.returns-then-p-longest_since

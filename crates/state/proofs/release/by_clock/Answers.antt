@@ -1,7 +1,6 @@
 use Rattle.basis.specs.Tests.{pick}
 use Rattle.state.specs.Release.{at_phase, by_clock}
 use borrow.Author.Tests.{lt-ltb, le-ltb, eq-eqb, ne_eqb, le-leb, lt-leb}
-use borrow.Author.Rules.{rules}
 use Rattle.state.proofs.release.by_clock.Goals as goal
 
 pub returns-then-clock-offset : goal.returns-then-clock-offset

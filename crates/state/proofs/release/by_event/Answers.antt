@@ -2,7 +2,6 @@ use Rattle.basis.specs.Tests.{pick}
 use Rattle.state.specs.Release.{by_event}
 use borrow.Author.Tests.{le-leb, lt-leb}
 use mathlib.Core.Path.{sym, ◌∙◌}
-use borrow.Author.Rules.{rules}
 use Rattle.state.proofs.release.by_event.Goals as goal
 
 pub returns-then-is_due : goal.returns-then-is_due

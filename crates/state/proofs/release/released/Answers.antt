@@ -1,7 +1,6 @@
 use Rattle.basis.specs.Tests.{pick}
 use Rattle.state.specs.Release.{released}
 use borrow.Author.Tests.{eq-eqb, ne_eqb}
-use borrow.Author.Rules.{rules}
 use Rattle.state.proofs.release.released.Goals as goal
 
 pub returns-then-th-eq1 : goal.returns-then-th-eq1

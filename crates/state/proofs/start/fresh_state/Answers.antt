@@ -1,12 +1,9 @@
 use Rattle.state.specs.State.{no_progress, ready, fresh}
 use Rattle.basis.proofs.SearchLaws.{listed-none, listed_next}
-use Rattle.basis.specs.Search.{listed}
 use native.Mathlib.Nat.{le_antisymm}
-use lib.ListN.{replicate}
-use mathlib.Core.List.{List, ◌++◌}
-use mathlib.Core.Path.{◌≡◌, ap}
+use mathlib.Core.List.{List}
+use mathlib.Core.Path.{ap}
 use Rattle.state.specs.declared.Progress.{Progress}
-use Prim.Native.Nat.{◌≤◌, ◌-◌}
 use native.Mathlib.Omega.{arith}
 use borrow.Author.Rules.{rules}
 use Rattle.state.proofs.start.fresh_state.Goals as goal

@@ -1,4 +1,3 @@
-use borrow.Author.Rules.{rules}
 use Rattle.state.proofs.start.ready.Goals as goal
 
 pub returns : goal.returns
