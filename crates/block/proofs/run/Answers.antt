@@ -56,8 +56,7 @@ prepare-p-requires c = (ready (goal.at.prepare-p-requires c).Else-not-legal).few
 
 pub play-end-requires : goal.play-end-requires
 play-end-requires c =
-    let g = passing (goal.at.play-end-requires c).Else-number-ne0 in
-    (
+    let g = passing (goal.at.play-end-requires c).Else-number-ne0 in (
       (ready (goal.at.play-end-requires c).Else-not-legal, c.prepare-p.ensures.0, rw c.prepare-p.ensures.1 (order_below c.args.t)),
       (
         (fits_sound _ _ (ready (goal.at.play-end-requires c).Else-not-legal).few (long (goal.at.play-end-requires c).Start) g.fitting, g.early, g.long),

@@ -180,49 +180,43 @@ pub has_event-requires : goal.has_event-requires
 has_event-requires c = omega (arith, (start (outer2 (goal.at.has_event-requires c).In-loop-i)).pre.0.0.few, c.loop-i-test.true)
 
 pub loop-i-preserved-then-e-eq1 : goal.loop-i-preserved-then-e-eq1
-loop-i-preserved-then-e-eq1 c =
-    (
-      search rules,
-      one_more (goal.at.loop-i-preserved-then-e-eq1 c).In-loop-i _ (event_refills c.loop-i.next c.loop-i.i (in_place (goal.at.loop-i-preserved-then-e-eq1 c).In-loop-i) _ _ _ _ c.if-th-eq1.true (rw c.has_event.ensures at c.event_effect-e.ensures) _ _ c.execution_budget.ensures c.since_after.ensures c.if-e-eq1.true),
-    )
+loop-i-preserved-then-e-eq1 c = (
+  search rules,
+  one_more (goal.at.loop-i-preserved-then-e-eq1 c).In-loop-i _ (event_refills c.loop-i.next c.loop-i.i (in_place (goal.at.loop-i-preserved-then-e-eq1 c).In-loop-i) _ _ _ _ c.if-th-eq1.true (rw c.has_event.ensures at c.event_effect-e.ensures) _ _ c.execution_budget.ensures c.since_after.ensures c.if-e-eq1.true),
+)
 
 pub loop-i-preserved-then-e-eq2 : goal.loop-i-preserved-then-e-eq2
-loop-i-preserved-then-e-eq2 c =
-    (
-      search rules,
-      one_more (goal.at.loop-i-preserved-then-e-eq2 c).In-loop-i _ (event_empties c.loop-i.next c.loop-i.i (in_place (goal.at.loop-i-preserved-then-e-eq2 c).In-loop-i) _ _ _ _ c.if-th-eq1.true (rw c.has_event.ensures at c.event_effect-e.ensures) _ c.since_after-then-e-eq2.ensures c.if-e-eq2.true),
-    )
+loop-i-preserved-then-e-eq2 c = (
+  search rules,
+  one_more (goal.at.loop-i-preserved-then-e-eq2 c).In-loop-i _ (event_empties c.loop-i.next c.loop-i.i (in_place (goal.at.loop-i-preserved-then-e-eq2 c).In-loop-i) _ _ _ _ c.if-th-eq1.true (rw c.has_event.ensures at c.event_effect-e.ensures) _ c.since_after-then-e-eq2.ensures c.if-e-eq2.true),
+)
 
 pub loop-i-preserved-else-e-eq2 : goal.loop-i-preserved-else-e-eq2
-loop-i-preserved-else-e-eq2 c =
-    (
-      search rules,
-      one_more (goal.at.loop-i-preserved-else-e-eq2 c).In-loop-i _ (event-leaves c.loop-i.next c.loop-i.i (in_place (goal.at.loop-i-preserved-else-e-eq2 c).In-loop-i) _ _ _ _ c.if-th-eq1.true (rw c.has_event.ensures at c.event_effect-e.ensures) _ c.since_after-else-e-eq2.ensures c.if-e-eq1.false c.if-e-eq2.false),
-    )
+loop-i-preserved-else-e-eq2 c = (
+  search rules,
+  one_more (goal.at.loop-i-preserved-else-e-eq2 c).In-loop-i _ (event-leaves c.loop-i.next c.loop-i.i (in_place (goal.at.loop-i-preserved-else-e-eq2 c).In-loop-i) _ _ _ _ c.if-th-eq1.true (rw c.has_event.ensures at c.event_effect-e.ensures) _ c.since_after-else-e-eq2.ensures c.if-e-eq1.false c.if-e-eq2.false),
+)
 
 pub clock_effect-e-requires : goal.clock_effect-e-requires
 clock_effect-e-requires c = (start (outer2 (goal.at.clock_effect-e-requires c).In-loop-i)).pre.0.0.period _ c.loop-i-test.true
 
 pub loop-i-preserved-then-e-eq1-2 : goal.loop-i-preserved-then-e-eq1-2
-loop-i-preserved-then-e-eq1-2 c =
-    (
-      search rules,
-      one_more (goal.at.loop-i-preserved-then-e-eq1-2 c).In-loop-i _ (clock_refills c.loop-i.next c.loop-i.i (in_place (goal.at.loop-i-preserved-then-e-eq1-2 c).In-loop-i) _ _ _ _ c.if-th-eq1.false c.clock_effect-e.ensures _ c.execution_budget-then-e-eq1-2.ensures c.if-e-eq1-2.true),
-    )
+loop-i-preserved-then-e-eq1-2 c = (
+  search rules,
+  one_more (goal.at.loop-i-preserved-then-e-eq1-2 c).In-loop-i _ (clock_refills c.loop-i.next c.loop-i.i (in_place (goal.at.loop-i-preserved-then-e-eq1-2 c).In-loop-i) _ _ _ _ c.if-th-eq1.false c.clock_effect-e.ensures _ c.execution_budget-then-e-eq1-2.ensures c.if-e-eq1-2.true),
+)
 
 pub loop-i-preserved-then-e-eq2-2 : goal.loop-i-preserved-then-e-eq2-2
-loop-i-preserved-then-e-eq2-2 c =
-    (
-      search rules,
-      one_more (goal.at.loop-i-preserved-then-e-eq2-2 c).In-loop-i _ (clock_empties c.loop-i.next c.loop-i.i (in_place (goal.at.loop-i-preserved-then-e-eq2-2 c).In-loop-i) _ _ _ _ c.if-th-eq1.false c.clock_effect-e.ensures c.if-e-eq2-2.true),
-    )
+loop-i-preserved-then-e-eq2-2 c = (
+  search rules,
+  one_more (goal.at.loop-i-preserved-then-e-eq2-2 c).In-loop-i _ (clock_empties c.loop-i.next c.loop-i.i (in_place (goal.at.loop-i-preserved-then-e-eq2-2 c).In-loop-i) _ _ _ _ c.if-th-eq1.false c.clock_effect-e.ensures c.if-e-eq2-2.true),
+)
 
 pub loop-i-preserved : goal.loop-i-preserved
-loop-i-preserved c =
-    (
-      search rules,
-      one_more (goal.at.loop-i-preserved c).In-loop-i _ (clock_leaves c.loop-i.next c.loop-i.i (in_place (goal.at.loop-i-preserved c).In-loop-i) _ _ _ _ c.if-th-eq1.false c.clock_effect-e.ensures c.if-e-eq1-2.false c.if-e-eq2-2.false),
-    )
+loop-i-preserved c = (
+  search rules,
+  one_more (goal.at.loop-i-preserved c).In-loop-i _ (clock_leaves c.loop-i.next c.loop-i.i (in_place (goal.at.loop-i-preserved c).In-loop-i) _ _ _ _ c.if-th-eq1.false c.clock_effect-e.ensures c.if-e-eq1-2.false c.if-e-eq2-2.false),
+)
 
 pub overflow_add-next : goal.overflow_add-next
 overflow_add-next c = search (rules, early (outer c))
@@ -240,13 +234,12 @@ pub place-p-requires : goal.place-p-requires
 place-p-requires c = low (goal.at.place-p-requires c).In-loop-r
 
 pub loop-r-preserved-then-rest-eq0 : goal.loop-r-preserved-then-rest-eq0
-loop-r-preserved-then-rest-eq0 c =
-    (
-      search rules,
-      (below (goal.at.loop-r-preserved-then-rest-eq0 c).In-loop-r).1,
-      going_passed _ _ _ (first (goal.at.loop-r-preserved-then-rest-eq0 c).In-loop-r) (others (goal.at.loop-r-preserved-then-rest-eq0 c).In-loop-r) c.loop-r.next (here (goal.at.loop-r-preserved-then-rest-eq0 c).In-loop-r) (low (goal.at.loop-r-preserved-then-rest-eq0 c).In-loop-r) _ _ (rw (split (goal.at.loop-r-preserved-then-rest-eq0 c).In-loop-r) at c.loop-r.invariant.2) c.place-p.ensures.0 c.if-rest-eq0.true,
-      c.loop-r.invariant.3,
-    )
+loop-r-preserved-then-rest-eq0 c = (
+  search rules,
+  (below (goal.at.loop-r-preserved-then-rest-eq0 c).In-loop-r).1,
+  going_passed _ _ _ (first (goal.at.loop-r-preserved-then-rest-eq0 c).In-loop-r) (others (goal.at.loop-r-preserved-then-rest-eq0 c).In-loop-r) c.loop-r.next (here (goal.at.loop-r-preserved-then-rest-eq0 c).In-loop-r) (low (goal.at.loop-r-preserved-then-rest-eq0 c).In-loop-r) _ _ (rw (split (goal.at.loop-r-preserved-then-rest-eq0 c).In-loop-r) at c.loop-r.invariant.2) c.place-p.ensures.0 c.if-rest-eq0.true,
+  c.loop-r.invariant.3,
+)
 
 pub bounds-now-p : goal.bounds-now-p
 bounds-now-p c =
@@ -262,34 +255,31 @@ overflow_add-next-then-would_run c =
     search (rules, k.at c.place-p.result)
 
 pub loop-r-preserved-then-would_run : goal.loop-r-preserved-then-would_run
-loop-r-preserved-then-would_run c =
-    (
-      search rules,
-      below_none (entry (goal.at.loop-r-preserved-then-would_run c).In-loop-r).args.t1.count (entry (goal.at.loop-r-preserved-then-would_run c).In-loop-r).args.t2.count (entry (goal.at.loop-r-preserved-then-would_run c).In-loop-r).args.t2.at,
-      going_over _ _ _ _ _ (entry (goal.at.loop-r-preserved-then-would_run c).In-loop-r).args.t2.count (entry (goal.at.loop-r-preserved-then-would_run c).In-loop-r).args.t2.at (going_runs _ _ _ (first (goal.at.loop-r-preserved-then-would_run c).In-loop-r) (others (goal.at.loop-r-preserved-then-would_run c).In-loop-r) c.loop-r.next (here (goal.at.loop-r-preserved-then-would_run c).In-loop-r) (low (goal.at.loop-r-preserved-then-would_run c).In-loop-r) _ _ (rw (split (goal.at.loop-r-preserved-then-would_run c).In-loop-r) at c.loop-r.invariant.2) c.place-p.ensures.0 c.if-rest-eq0.false (sym c.would_run.ensures ∙ c.if-would_run.true)),
-      ran_long c.loop-r.next c.place-p.result ((progress c.loop-r.next c.place-p.result).rest - 1) ((progress c.loop-r.next c.place-p.result).execution - 1) ((progress c.loop-r.next c.place-p.result).ran + 1) ∙ c.loop-r.invariant.3,
-    )
+loop-r-preserved-then-would_run c = (
+  search rules,
+  below_none (entry (goal.at.loop-r-preserved-then-would_run c).In-loop-r).args.t1.count (entry (goal.at.loop-r-preserved-then-would_run c).In-loop-r).args.t2.count (entry (goal.at.loop-r-preserved-then-would_run c).In-loop-r).args.t2.at,
+  going_over _ _ _ _ _ (entry (goal.at.loop-r-preserved-then-would_run c).In-loop-r).args.t2.count (entry (goal.at.loop-r-preserved-then-would_run c).In-loop-r).args.t2.at (going_runs _ _ _ (first (goal.at.loop-r-preserved-then-would_run c).In-loop-r) (others (goal.at.loop-r-preserved-then-would_run c).In-loop-r) c.loop-r.next (here (goal.at.loop-r-preserved-then-would_run c).In-loop-r) (low (goal.at.loop-r-preserved-then-would_run c).In-loop-r) _ _ (rw (split (goal.at.loop-r-preserved-then-would_run c).In-loop-r) at c.loop-r.invariant.2) c.place-p.ensures.0 c.if-rest-eq0.false (sym c.would_run.ensures ∙ c.if-would_run.true)),
+  ran_long c.loop-r.next c.place-p.result ((progress c.loop-r.next c.place-p.result).rest - 1) ((progress c.loop-r.next c.place-p.result).execution - 1) ((progress c.loop-r.next c.place-p.result).ran + 1) ∙ c.loop-r.invariant.3,
+)
 
 pub overflow_add-answer : goal.overflow_add-answer
 overflow_add-answer c = search (rules, low (goal.at.overflow_add-answer c).In-loop-r)
 
 pub loop-r-preserved-then-mark : goal.loop-r-preserved-then-mark
-loop-r-preserved-then-mark c =
-    (
-      search rules,
-      below_none (entry (goal.at.loop-r-preserved-then-mark c).In-loop-r).args.t1.count (entry (goal.at.loop-r-preserved-then-mark c).In-loop-r).args.t2.count (entry (goal.at.loop-r-preserved-then-mark c).In-loop-r).args.t2.at,
-      going_over _ _ _ _ _ (entry (goal.at.loop-r-preserved-then-mark c).In-loop-r).args.t2.count (entry (goal.at.loop-r-preserved-then-mark c).In-loop-r).args.t2.at (going_idles _ _ _ (first (goal.at.loop-r-preserved-then-mark c).In-loop-r) (others (goal.at.loop-r-preserved-then-mark c).In-loop-r) c.loop-r.next (here (goal.at.loop-r-preserved-then-mark c).In-loop-r) (low (goal.at.loop-r-preserved-then-mark c).In-loop-r) _ _ _ (rw (split (goal.at.loop-r-preserved-then-mark c).In-loop-r) at c.loop-r.invariant.2) c.place-p.ensures.0 c.if-rest-eq0.false (sym c.would_run.ensures ∙ c.if-would_run.false) c.heard.ensures c.if-mark.true),
-      waits_long c.loop-r.next c.place-p.result ((progress c.loop-r.next c.place-p.result).rest - 1) c.heard.result ∙ c.loop-r.invariant.3,
-    )
+loop-r-preserved-then-mark c = (
+  search rules,
+  below_none (entry (goal.at.loop-r-preserved-then-mark c).In-loop-r).args.t1.count (entry (goal.at.loop-r-preserved-then-mark c).In-loop-r).args.t2.count (entry (goal.at.loop-r-preserved-then-mark c).In-loop-r).args.t2.at,
+  going_over _ _ _ _ _ (entry (goal.at.loop-r-preserved-then-mark c).In-loop-r).args.t2.count (entry (goal.at.loop-r-preserved-then-mark c).In-loop-r).args.t2.at (going_idles _ _ _ (first (goal.at.loop-r-preserved-then-mark c).In-loop-r) (others (goal.at.loop-r-preserved-then-mark c).In-loop-r) c.loop-r.next (here (goal.at.loop-r-preserved-then-mark c).In-loop-r) (low (goal.at.loop-r-preserved-then-mark c).In-loop-r) _ _ _ (rw (split (goal.at.loop-r-preserved-then-mark c).In-loop-r) at c.loop-r.invariant.2) c.place-p.ensures.0 c.if-rest-eq0.false (sym c.would_run.ensures ∙ c.if-would_run.false) c.heard.ensures c.if-mark.true),
+  waits_long c.loop-r.next c.place-p.result ((progress c.loop-r.next c.place-p.result).rest - 1) c.heard.result ∙ c.loop-r.invariant.3,
+)
 
 pub loop-r-preserved : goal.loop-r-preserved
-loop-r-preserved c =
-    (
-      search rules,
-      (below (goal.at.loop-r-preserved c).In-loop-r).1,
-      going_next _ _ _ (first (goal.at.loop-r-preserved c).In-loop-r) (others (goal.at.loop-r-preserved c).In-loop-r) c.loop-r.next (here (goal.at.loop-r-preserved c).In-loop-r) (low (goal.at.loop-r-preserved c).In-loop-r) _ _ _ (rw (split (goal.at.loop-r-preserved c).In-loop-r) at c.loop-r.invariant.2) c.place-p.ensures.0 c.if-rest-eq0.false (sym c.would_run.ensures ∙ c.if-would_run.false) c.heard.ensures c.if-mark.false,
-      waits_long c.loop-r.next c.place-p.result ((progress c.loop-r.next c.place-p.result).rest - 1) c.heard.result ∙ c.loop-r.invariant.3,
-    )
+loop-r-preserved c = (
+  search rules,
+  (below (goal.at.loop-r-preserved c).In-loop-r).1,
+  going_next _ _ _ (first (goal.at.loop-r-preserved c).In-loop-r) (others (goal.at.loop-r-preserved c).In-loop-r) c.loop-r.next (here (goal.at.loop-r-preserved c).In-loop-r) (low (goal.at.loop-r-preserved c).In-loop-r) _ _ _ (rw (split (goal.at.loop-r-preserved c).In-loop-r) at c.loop-r.invariant.2) c.place-p.ensures.0 c.if-rest-eq0.false (sym c.would_run.ensures ∙ c.if-would_run.false) c.heard.ensures c.if-mark.false,
+  waits_long c.loop-r.next c.place-p.result ((progress c.loop-r.next c.place-p.result).rest - 1) c.heard.result ∙ c.loop-r.invariant.3,
+)
 
 pub bounds-out-here : goal.bounds-out-here
 bounds-out-here c =

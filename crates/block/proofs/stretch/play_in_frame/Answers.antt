@@ -122,8 +122,7 @@ loop-k-smaller c = omega (arith, short (goal.at.loop-k-smaller c).After-shorter-
 pub loop-k-preserved : goal.loop-k-preserved
 loop-k-preserved c =
     let l = head (goal.at.loop-k-preserved c).After-shorter-n in
-    let z = start l in
-    (
+    let z = start l in (
       omega (arith, short (goal.at.loop-k-preserved c).After-shorter-n, l.loop-test.taken),
       stretch_end z.args.t (framed z.args.f) _ c.narrow-p.ensures.2 (ranked c.narrow-p.result.order) z.args.masks.now z.args.bytes.now z.args.s l.before.loop.next l.before.loop.k c.shorter-n.result l.before.loop.inv.1 (stay (goal.at.loop-k-preserved c).After-shorter-n) _ c.play-next.ensures.0,
       stretch-trace z.args.t (framed z.args.f) _ c.narrow-p.ensures.2 (ranked c.narrow-p.result.order) z.args.masks.now z.args.bytes.now z.args.s l.before.loop.next l.before.loop.k c.shorter-n.result l.before.loop.inv.1 (stay (goal.at.loop-k-preserved c).After-shorter-n) z.args.out.now l.before.loop.out _ l.before.loop.inv.2 c.play-next.ensures.1,
