@@ -1,7 +1,6 @@
 -- `block::run_in_frame` meets its contract: 11, 19, the refusals behind them, and then the steps, stretch by stretch.
 use mathlib.Core.Path.{◌≡◌, refl, sym, ◌∙◌}
-use mathlib.Core.Bool.{Bool, true, false}
-use native.Mathlib.Omega.{arith}
+use mathlib.Core.Bool.{Bool, true}
 use borrow.Author.Tests.{eqb-false}
 use lib.ListN.{length}
 use Rattle.basis.proofs.ListLaws.{long_of}

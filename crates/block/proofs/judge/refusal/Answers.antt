@@ -1,16 +1,16 @@
 -- The refusals behind 11 and 19, in their order.
-use Prim.Native.Nat.{ℕ, ◌+◌, ◌/◌, ◌%◌, ◌≤◌, ◌<◌}
+use Prim.Native.Nat.{ℕ, ◌+◌, ◌/◌, ◌%◌}
 use mathlib.Core.Path.{◌≡◌, sym, ◌∙◌}
 use mathlib.Core.List.{List}
-use mathlib.Core.Bool.{Bool, true, false}
+use mathlib.Core.Bool.{Bool}
 use native.Mathlib.Omega.{arith}
 use borrow.Author.Tests.{le-leb, lt-leb}
 use lib.ListN.{length}
-use lib.Dec.{eqb, leb}
+use lib.Dec.{eqb}
 use Rattle.basis.specs.Tests.{pick, and}
 use Rattle.table.specs.declared.Table.{Table}
-use Rattle.state.specs.State.{last_clock, fits}
-use Rattle.block.specs.Block.{whole, masks_ok, refusal_then}
+use Rattle.state.specs.State.{last_clock}
+use Rattle.block.specs.Block.{whole, refusal_then}
 use Rattle.block.proofs.RunLaws.{fits_early}
 use Rattle.block.proofs.judge.refusal.Goals as goal
 

@@ -1,9 +1,8 @@
 use Prim.Native.Nat.{ℕ}
-use mathlib.Core.Path.{◌≡◌, sym, ◌∙◌, ap}
-use mathlib.Core.Bool.{true}
+use mathlib.Core.Path.{sym, ◌∙◌, ap}
 use Rattle.basis.specs.Tests.{pick}
 use Rattle.basis.proofs.ListLaws.{long_of}
-use Rattle.table.specs.Legal.{legal, Sized, Legal}
+use Rattle.table.specs.Legal.{Sized, Legal}
 use Rattle.table.proofs.LegalLaws.{legal_sound}
 use Rattle.frame.specs.Mode.{unframed}
 use Rattle.frame.proofs.ModeLaws.{unframed_passes}

@@ -3,9 +3,9 @@ use native.Mathlib.Omega.{arith}
 use native.Mathlib.Nat.{add-zero, le_antisymm}
 use mathlib.Core.List.{List, ◌∷◌}
 use mathlib.Core.Path.{◌≡◌, refl, sym, ◌∙◌, ap}
-use Prim.Native.Nat.{ℕ, ◌≤◌, ◌<◌, ◌-◌, ◌+◌, ◌*◌}
-use lib.ListN.{length, get_or, take, drop}
-use lib.Seq.{slice, sets}
+use Prim.Native.Nat.{ℕ, ◌≤◌, ◌<◌, ◌-◌, ◌+◌}
+use lib.ListN.{length, get_or}
+use lib.Seq.{slice}
 use Rattle.basis.specs.Search.{listed}
 use Rattle.basis.specs.Turns.{in_turn, after}
 use Rattle.basis.proofs.ListLaws.{long_of}
@@ -15,10 +15,8 @@ use Rattle.table.specs.declared.Table.{Table}
 use Rattle.state.specs.State.{progress, put, last_clock, each_thread, Fits}
 use Rattle.state.specs.Release.{has_event, release}
 use Rattle.state.specs.Methods.{tick}
-use Rattle.state.specs.declared.Progress.{Progress}
 use Rattle.state.specs.declared.State.{State}
 use Rattle.order.specs.Order.{Below}
-use Rattle.walk.specs.Walk.{walk}
 use Rattle.walk.specs.Step.{advance}
 use Rattle.walk.specs.declared.Walked.{Walked}
 use Rattle.walk.proofs.WalkLaws.{slice_next}
@@ -27,7 +25,7 @@ use Rattle.block.specs.Block.{inputs, end_of, trace_of}
 use Rattle.block.proofs.ThreadLaws.{moved, event_refills, event_empties, event-leaves, clock_refills, clock_empties, clock_leaves, each_more, ran_long, waits_long}
 use Rattle.block.proofs.EarlyLaws.{all_moved}
 use Rattle.block.proofs.VisitLaws.{on, Going, going_counted, going_runs, going_idles, going_next, going_passed, going_over, going_done, run-left, below_none}
-use Rattle.block.proofs.StretchLaws.{fits-at, clock_at, moved_long, moved-counted, next-state, next-trace, sets_room, part-inside, part-is, part_length, next-part}
+use Rattle.block.proofs.StretchLaws.{fits-at, clock_at, moved_long, moved-counted, next-state, next-trace, part-inside, part-is, part_length, next-part}
 use borrow.Author.Rules.{rules}
 use Rattle.block.proofs.play.play.Goals as goal
 
@@ -82,7 +80,7 @@ loop-i-preserved-then-e-eq1 c =
     let l : c.loop-i.i < length c.loop-i.next.threads = in_place _ _ _ _ _ f c.requires.usable.0.few c.loop-i-test.true c.loop-i.invariant.1 in (
       omega arith,
       one_more c.args.t _ _ _ _ _ c.loop-i.invariant.1
-      (event_refills c.loop-i.next c.loop-i.i l _ _ _ _ c.if-th-eq1.true (rw c.has_event.ensures at c.event_effect-e.ensures) _ _ c.execution_budget.ensures c.since_after.ensures c.if-e-eq1.true),
+          (event_refills c.loop-i.next c.loop-i.i l _ _ _ _ c.if-th-eq1.true (rw c.has_event.ensures at c.event_effect-e.ensures) _ _ c.execution_budget.ensures c.since_after.ensures c.if-e-eq1.true),
     )
 
 pub loop-i-preserved-then-e-eq2 : goal.loop-i-preserved-then-e-eq2
@@ -91,7 +89,7 @@ loop-i-preserved-then-e-eq2 c =
     let l : c.loop-i.i < length c.loop-i.next.threads = in_place _ _ _ _ _ f c.requires.usable.0.few c.loop-i-test.true c.loop-i.invariant.1 in (
       omega arith,
       one_more c.args.t _ _ _ _ _ c.loop-i.invariant.1
-      (event_empties c.loop-i.next c.loop-i.i l _ _ _ _ c.if-th-eq1.true (rw c.has_event.ensures at c.event_effect-e.ensures) _ c.since_after-then-e-eq2.ensures c.if-e-eq2.true),
+          (event_empties c.loop-i.next c.loop-i.i l _ _ _ _ c.if-th-eq1.true (rw c.has_event.ensures at c.event_effect-e.ensures) _ c.since_after-then-e-eq2.ensures c.if-e-eq2.true),
     )
 
 pub loop-i-preserved-else-e-eq2 : goal.loop-i-preserved-else-e-eq2
@@ -100,7 +98,7 @@ loop-i-preserved-else-e-eq2 c =
     let l : c.loop-i.i < length c.loop-i.next.threads = in_place _ _ _ _ _ f c.requires.usable.0.few c.loop-i-test.true c.loop-i.invariant.1 in (
       omega arith,
       one_more c.args.t _ _ _ _ _ c.loop-i.invariant.1
-      (event-leaves c.loop-i.next c.loop-i.i l _ _ _ _ c.if-th-eq1.true (rw c.has_event.ensures at c.event_effect-e.ensures) _ c.since_after-else-e-eq2.ensures c.if-e-eq1.false c.if-e-eq2.false),
+          (event-leaves c.loop-i.next c.loop-i.i l _ _ _ _ c.if-th-eq1.true (rw c.has_event.ensures at c.event_effect-e.ensures) _ c.since_after-else-e-eq2.ensures c.if-e-eq1.false c.if-e-eq2.false),
     )
 
 pub loop-i-preserved-then-e-eq1-2 : goal.loop-i-preserved-then-e-eq1-2
@@ -109,7 +107,7 @@ loop-i-preserved-then-e-eq1-2 c =
     let l : c.loop-i.i < length c.loop-i.next.threads = in_place _ _ _ _ _ f c.requires.usable.0.few c.loop-i-test.true c.loop-i.invariant.1 in (
       omega arith,
       one_more c.args.t _ _ _ _ _ c.loop-i.invariant.1
-      (clock_refills c.loop-i.next c.loop-i.i l _ _ _ _ c.if-th-eq1.false c.clock_effect-e.ensures _ c.execution_budget-then-e-eq1-2.ensures c.if-e-eq1-2.true),
+          (clock_refills c.loop-i.next c.loop-i.i l _ _ _ _ c.if-th-eq1.false c.clock_effect-e.ensures _ c.execution_budget-then-e-eq1-2.ensures c.if-e-eq1-2.true),
     )
 
 pub loop-i-preserved-then-e-eq2-2 : goal.loop-i-preserved-then-e-eq2-2
@@ -126,7 +124,7 @@ loop-i-preserved c =
     let l : c.loop-i.i < length c.loop-i.next.threads = in_place _ _ _ _ _ f c.requires.usable.0.few c.loop-i-test.true c.loop-i.invariant.1 in (
       omega arith,
       one_more c.args.t _ _ _ _ _ c.loop-i.invariant.1
-      (clock_leaves c.loop-i.next c.loop-i.i l _ _ _ _ c.if-th-eq1.false c.clock_effect-e.ensures c.if-e-eq1-2.false c.if-e-eq2-2.false),
+          (clock_leaves c.loop-i.next c.loop-i.i l _ _ _ _ c.if-th-eq1.false c.clock_effect-e.ensures c.if-e-eq1-2.false c.if-e-eq2-2.false),
     )
 
 pub overflow_add-next : goal.overflow_add-next
@@ -186,9 +184,9 @@ loop-r-preserved-then-would_run c =
       search rules,
       below_none c.args.t.count c.args.order.count c.args.order.at,
       going_over _ _ _ _ _ c.args.order.count c.args.order.at
-      (going_runs _ _ _ _ _ c.loop-r.next (omega (arith, c.loop-r.invariant.3)) low _ _ (going _ _ _ n c.loop-r-test.true _ _ _ _ _ c.loop-r.invariant.2) c.place-p.ensures.0 c.if-rest-eq0.false (sym c.would_run.ensures ∙ c.if-would_run.true)),
+          (going_runs _ _ _ _ _ c.loop-r.next (omega (arith, c.loop-r.invariant.3)) low _ _ (going _ _ _ n c.loop-r-test.true _ _ _ _ _ c.loop-r.invariant.2) c.place-p.ensures.0 c.if-rest-eq0.false (sym c.would_run.ensures ∙ c.if-would_run.true)),
       ran_long c.loop-r.next c.place-p.result ((progress c.loop-r.next c.place-p.result).rest - 1) ((progress c.loop-r.next c.place-p.result).execution - 1) ((progress c.loop-r.next c.place-p.result).ran + 1)
-      ∙ c.loop-r.invariant.3,
+          ∙ c.loop-r.invariant.3,
     )
 
 pub loop-r-preserved-then-mark : goal.loop-r-preserved-then-mark
@@ -200,7 +198,7 @@ loop-r-preserved-then-mark c =
       search rules,
       below_none c.args.t.count c.args.order.count c.args.order.at,
       going_over _ _ _ _ _ c.args.order.count c.args.order.at
-      (going_idles _ _ _ _ _ c.loop-r.next (omega (arith, c.loop-r.invariant.3)) low _ _ _ (going _ _ _ n c.loop-r-test.true _ _ _ _ _ c.loop-r.invariant.2) c.place-p.ensures.0 c.if-rest-eq0.false (sym c.would_run.ensures ∙ c.if-would_run.false) c.heard.ensures c.if-mark.true),
+          (going_idles _ _ _ _ _ c.loop-r.next (omega (arith, c.loop-r.invariant.3)) low _ _ _ (going _ _ _ n c.loop-r-test.true _ _ _ _ _ c.loop-r.invariant.2) c.place-p.ensures.0 c.if-rest-eq0.false (sym c.would_run.ensures ∙ c.if-would_run.false) c.heard.ensures c.if-mark.true),
       waits_long c.loop-r.next c.place-p.result ((progress c.loop-r.next c.place-p.result).rest - 1) c.heard.result ∙ c.loop-r.invariant.3,
     )
 
