@@ -17,7 +17,7 @@ use Rattle.state.specs.State.{last_clock, fits}
 use Rattle.state.specs.declared.State.{State}
 use Rattle.frame.specs.Mode.{Mode, mode_ok}
 use Rattle.scheduler.specs.Taken.{mask_ok}
-use Rattle.block.specs.Block.{whole, masks_ok, refusal_then, refusal, Blocked, block, or_no_room, recorded}
+use Rattle.block.specs.Block.{whole, masks_ok, refusal_then, refusal, Blocked, or_no_room, recorded}
 use Rattle.block.specs.Numbered.{BlockNumbered, not-legal, bad-frame, not-fitting, not-whole, no_event, too_late, no_room, makes}
 use Rattle.block.proofs.RunLaws.{whole_long}
 use Rattle.block.proofs.CallLaws.{block_same_refusal}

@@ -4,17 +4,17 @@ use mathlib.Core.Path.{◌≡◌, refl, sym, ◌∙◌, ap, subst}
 use mathlib.Core.List.{List, [], ◌∷◌}
 use mathlib.Core.Bool.{Bool, true, false, not, true≢false}
 use native.Mathlib.Omega.{arith}
-use native.Mathlib.Nat.{le_refl, le_antisymm}
+use native.Mathlib.Nat.{le_antisymm}
 use borrow.Author.Tests.{eq-eqb, ne_eqb, lt-ltb, le-ltb, eqb-true, eqb-false}
 use lib.ListN.{length, get_or}
 use lib.Seq.{slice, slice_empty}
 use lib.Dec.{eqb, ltb}
 use Rattle.basis.specs.Tests.{pick, and}
-use Rattle.basis.proofs.TestLaws.{by_test, both_ways}
+use Rattle.basis.proofs.TestLaws.{by_test}
 use Rattle.table.specs.declared.Mark.{Mark}
 use Rattle.table.specs.Mark.{is_set}
-use Rattle.state.specs.State.{with_rest, with_execution, with_finished, with_count, progress, put}
-use Rattle.state.specs.Methods.{paid, pay, done, finish, counted, count}
+use Rattle.state.specs.State.{with_finished, progress, put}
+use Rattle.state.specs.Methods.{paid, pay, finish, counted, count}
 use Rattle.state.specs.Given.{Counted}
 use Rattle.state.specs.declared.Progress.{Progress}
 use Rattle.state.specs.declared.State.{State}

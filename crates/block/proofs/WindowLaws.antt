@@ -1,7 +1,6 @@
 -- While a window lasts, the threads that are walked stay.
 use Prim.Native.Nat.{ℕ, suc, ◌+◌, ◌-◌, ◌%◌, ◌≤◌, ◌<◌}
 use mathlib.Core.Path.{◌≡◌, sym, ◌∙◌, ap}
-use mathlib.Core.List.{List}
 use native.Mathlib.Omega.{arith}
 use native.Mathlib.Decide.{le_ind}
 use native.Mathlib.Nat.{le_refl, mod-add-mod, mod-eq_of_lt}

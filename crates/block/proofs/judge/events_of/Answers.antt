@@ -1,4 +1,4 @@
-use Prim.Native.Nat.{ℕ, ◌-◌, ◌≤◌, ◌<◌}
+use Prim.Native.Nat.{ℕ, ◌-◌}
 use mathlib.Core.Path.{◌≡◌, sym, ◌∙◌, ap}
 use native.Mathlib.Omega.{arith}
 use Rattle.block.specs.Play.{events}
@@ -6,19 +6,16 @@ use Rattle.block.proofs.EventLaws.{events-next, events_room}
 use borrow.Author.Rules.{rules}
 use Rattle.block.proofs.judge.events_of.Goals as goal
 
--- Each doubling has room.
-room : (l : tie.In-loop invariant-loop decreases-loop) → l.before.loop.all < 2147483648
-room l = events_room _ l.before.loop.i _ _ l.loop-test.true l.before.loop.invariant.0 l.before.before.requires l.before.loop.invariant.1
-
 pub loop-i-init : goal.loop-i-init
 unfolding events
 loop-i-init c = (search rules, let z : c.args.t.count - c.args.t.count ≡ 0 = omega arith in sym (ap (λ (n : ℕ). events c.args.t c.args.t.count n) z))
 
+-- Each doubling has room.
 pub overflow_mul-all : goal.overflow_mul-all
-overflow_mul-all c = search (rules, room (goal.at.overflow_mul-all c).In-loop-i)
+overflow_mul-all c = omega (arith, events_room _ c.loop-i.i _ _ c.loop-i-test.true c.loop-i.invariant.0 c.requires c.loop-i.invariant.1)
 
 pub overflow_add-all : goal.overflow_add-all
-overflow_add-all c = search (rules, room (goal.at.overflow_add-all c).In-loop-i, c.event_bit.ensures.1)
+overflow_add-all c = omega (arith, events_room _ c.loop-i.i _ _ c.loop-i-test.true c.loop-i.invariant.0 c.requires c.loop-i.invariant.1, c.event_bit.ensures.1)
 
 pub loop-i-preserved : goal.loop-i-preserved
 loop-i-preserved c = (search rules, events-next _ c.loop-i.i c.args.t.count _ _ c.loop-i-test.true c.loop-i.invariant.0 c.loop-i.invariant.1 c.event_bit.ensures.0)

@@ -1,9 +1,6 @@
-use Prim.Native.Nat.{ℕ, ◌-◌, ◌≤◌, ◌<◌}
-use mathlib.Core.Path.{◌≡◌, sym, ◌∙◌, ap}
-use native.Mathlib.Omega.{arith}
+use Prim.Native.Nat.{◌-◌, ◌≤◌}
+use mathlib.Core.Path.{◌≡◌}
 use Rattle.block.specs.Play.{events}
-use Rattle.block.proofs.EventLaws.{events-next, events_room}
-use borrow.Author.Rules.{rules}
 use Rattle.block.proofs.judge.events_of.Given as goal
 
 abbrev pub invariant-loop-i : goal.invariant-loop-i

@@ -1,5 +1,4 @@
 use borrow.Author.Tests.{eq-eqb, ne_eqb}
-use borrow.Author.Rules.{rules}
 use Rattle.block.proofs.judge.is_whole.Goals as goal
 
 pub returns-then-bytes-count-ne0 : goal.returns-then-bytes-count-ne0

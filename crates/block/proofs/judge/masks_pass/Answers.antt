@@ -1,13 +1,6 @@
-use Prim.Native.Nat.{ℕ, ◌≤◌, ◌-◌}
-use mathlib.Core.Path.{◌≡◌, sym, ◌∙◌}
-use mathlib.Core.Bool.{true}
-use borrow.Author.Tests.{not-true, not-false}
-use lib.ListN.{get_or}
-use Rattle.basis.specs.Tests.{every}
+use mathlib.Core.Path.{sym, ◌∙◌}
 use Rattle.basis.proofs.TestLaws.{every-none, every-next, every_end, every_fails}
-use Rattle.scheduler.specs.Taken.{mask_ok}
 use Rattle.block.specs.Block.{masks_ok}
-use Rattle.block.specs.Play.{events}
 use Rattle.block.proofs.EventLaws.{within-passes}
 use borrow.Author.Rules.{rules}
 use Rattle.block.proofs.judge.masks_pass.Goals as goal

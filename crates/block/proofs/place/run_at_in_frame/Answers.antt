@@ -1,7 +1,6 @@
 use Rattle.frame.specs.Mode.{framed}
 use Rattle.block.proofs.PlaceLaws.{recorded_past, recorded_part, part-inside}
 use native.Mathlib.Omega.{arith}
-use borrow.Author.Rules.{rules}
 use Rattle.block.proofs.place.run_at_in_frame.Goals as goal
 
 pub returns-then-out-at : goal.returns-then-out-at
@@ -9,9 +8,9 @@ returns-then-out-at c = recorded_past c.args.t (framed c.args.f) c.args.masks.no
 
 pub stop-next-requires : goal.stop-next-requires
 stop-next-requires c =
-    let inside = part-inside c.args.t (framed c.args.f) c.args.masks.now c.args.bytes.now c.args.s c.args.out.now c.args.at c.run_in_frame-end.result c.run_in_frame-end.new.1.1.1.1.1.0 c.if-out-at.false c.run_in_frame-end.ensures in
+    let inside = part-inside c.args.t (framed c.args.f) c.args.masks.now c.args.bytes.now c.args.s c.args.out.now c.args.at c.run_in_frame-end.result c.run_in_frame-end.new.part c.if-out-at.false c.run_in_frame-end.ensures in
     omega (arith, inside)
 
 pub returns : goal.returns
 returns c =
-    recorded_part c.args.t (framed c.args.f) c.args.masks.now c.args.bytes.now c.args.s c.args.out.now c.args.at c.run_in_frame-end.result c.run_in_frame-end.new.1.1.1.1.1.0 c.stop-next.result c.if-out-at.false c.stop-next.ensures c.run_in_frame-end.ensures
+    recorded_part c.args.t (framed c.args.f) c.args.masks.now c.args.bytes.now c.args.s c.args.out.now c.args.at c.run_in_frame-end.result c.run_in_frame-end.new.part c.stop-next.result c.if-out-at.false c.stop-next.ensures c.run_in_frame-end.ensures

@@ -1,6 +1,5 @@
 use borrow.Author.Tests.{lt-ltb, le-ltb}
 use Rattle.basis.specs.Tests.{pick}
-use borrow.Author.Rules.{rules}
 use Rattle.block.proofs.stretch.shorter.Goals as goal
 
 pub returns-then-l-steps : goal.returns-then-l-steps

@@ -1,7 +1,6 @@
 use borrow.Author.Tests.{lt-ltb, le-ltb, eq-eqb, ne_eqb, le-leb, lt-leb}
 use Rattle.basis.specs.Tests.{pick}
 use Rattle.block.specs.Play.{clock_effect}
-use borrow.Author.Rules.{rules}
 use Rattle.block.proofs.thread.clock_effect.Goals as goal
 
 pub returns-then-clock-offset : goal.returns-then-clock-offset

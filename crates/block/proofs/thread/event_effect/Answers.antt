@@ -1,8 +1,7 @@
 use mathlib.Core.Path.{sym, ◌∙◌}
-use borrow.Author.Tests.{lt-ltb, le-ltb, eq-eqb, ne_eqb, le-leb, lt-leb}
+use borrow.Author.Tests.{le-leb, lt-leb}
 use Rattle.basis.specs.Tests.{pick}
 use Rattle.block.specs.Play.{event_effect}
-use borrow.Author.Rules.{rules}
 use Rattle.block.proofs.thread.event_effect.Goals as goal
 
 pub returns-then-is_due : goal.returns-then-is_due

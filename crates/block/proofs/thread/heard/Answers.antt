@@ -1,6 +1,5 @@
 use borrow.Author.Tests.{eq-eqb, ne_eqb}
 use Rattle.basis.specs.Tests.{pick}
-use borrow.Author.Rules.{rules}
 use Rattle.block.proofs.thread.heard.Goals as goal
 
 pub returns-then-b-eq2 : goal.returns-then-b-eq2

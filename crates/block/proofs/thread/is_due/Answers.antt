@@ -1,5 +1,4 @@
 use borrow.Author.Tests.{not-true, not-false}
-use borrow.Author.Rules.{rules}
 use Rattle.block.proofs.thread.is_due.Goals as goal
 
 pub returns-then-not-event : goal.returns-then-not-event

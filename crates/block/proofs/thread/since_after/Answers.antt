@@ -1,7 +1,6 @@
-use borrow.Author.Tests.{lt-ltb, le-ltb, eq-eqb, ne_eqb, le-leb, lt-leb}
+use borrow.Author.Tests.{lt-ltb, le-ltb, eq-eqb, ne_eqb}
 use Rattle.basis.specs.Tests.{pick}
 use Rattle.block.specs.Play.{since_after}
-use borrow.Author.Rules.{rules}
 use Rattle.block.proofs.thread.since_after.Goals as goal
 
 pub returns-then-th-ne1 : goal.returns-then-th-ne1

@@ -1,9 +1,7 @@
-use Rattle.frame.specs.Frame.{before}
 use Rattle.frame.proofs.FrameLaws.{before-none, before-next}
 use native.Mathlib.Nat.{le_antisymm}
 use native.Mathlib.Numerals.{add-one}
-use mathlib.Core.Path.{◌≡◌, sym, ◌∙◌, ap}
-use Prim.Native.Nat.{ℕ, suc, ◌≤◌, ◌*◌, ◌-◌, ◌+◌}
+use mathlib.Core.Path.{sym, ◌∙◌}
 use borrow.Author.Rules.{rules}
 use Rattle.block.proofs.window.end_of_window.Goals as goal
 

@@ -1,7 +1,6 @@
 use native.Mathlib.Omega.{arith}
 use Rattle.frame.proofs.FrameLaws.{frame_takes}
 use Rattle.block.proofs.WindowLaws.{window_few, left_is}
-use borrow.Author.Rules.{rules}
 use Rattle.block.proofs.window.steps_left.Goals as goal
 
 pub nonzero_rem-place : goal.nonzero_rem-place
