@@ -23,7 +23,7 @@ pub value_of-v-requires : goal.value_of-v-requires
 value_of-v-requires c = digits c
 
 pub returns-then-v-gt65535 : goal.returns-then-v-gt65535
-returns-then-v-gt65535 c = judged_over _ _ (unpadded (goal.at.returns-then-v-gt65535 c).Else-is_padded) (digits (goal.at.returns-then-v-gt65535 c).Else-not-is_digits) _ c.value_of_lem.ensures c.if-v-gt65535.true
+returns-then-v-gt65535 c = judged_over _ _ (unpadded (goal.at.returns-then-v-gt65535 c).Else-is_padded) (digits (goal.at.returns-then-v-gt65535 c).Else-not-is_digits) _ c.value_of-v.ensures c.if-v-gt65535.true
 
 pub returns : goal.returns
-returns c = judged_value _ _ (unpadded (goal.at.returns c).Else-is_padded) (digits (goal.at.returns c).Else-not-is_digits) _ c.value_of_lem.ensures c.if-v-gt65535.false
+returns c = judged_value _ _ (unpadded (goal.at.returns c).Else-is_padded) (digits (goal.at.returns c).Else-not-is_digits) _ c.value_of-v.ensures c.if-v-gt65535.false

@@ -11,7 +11,6 @@ use Rattle.sheet.specs.declared.Cutting.{Cutting}
 use borrow.Author.Rules.{rules}
 use Rattle.sheet.proofs.judge.passed.Goals as goal
 
-
 module _ (s : List ℕ) (c : Cutting) (r : Read) where
   faulty : c.refusal ≢ 0 → own c ≡ passed_by s c r
   unfolding passed_by pick
