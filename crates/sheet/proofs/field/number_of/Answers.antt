@@ -1,9 +1,7 @@
 use mathlib.Core.Path.{◌≡◌, sym, ◌∙◌}
 use mathlib.Core.Bool.{true, false}
-use borrow.Author.Tests.{not-true, not-false}
 use Rattle.sheet.specs.Field.{zero_first, all_digits}
 use Rattle.sheet.proofs.FieldLaws.{judged-padded, judged_strange, judged_over, judged_value}
-use borrow.Author.Rules.{rules}
 use Rattle.sheet.proofs.field.number_of.Goals as goal
 use Rattle.sheet.proofs.field.number_of.Goals.{Else-is_padded, Else-not-is_digits}
 

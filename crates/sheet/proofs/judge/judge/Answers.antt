@@ -9,8 +9,7 @@ use lib.Seq.{length-take-le, take-append_seam, sets-eq}
 use Rattle.writer.specs.Buffer.{Put}
 use Rattle.writer.proofs.WriterLaws.{put-length}
 use Rattle.sheet.specs.Scan.{cut_bytes}
-use Rattle.sheet.proofs.CutLaws.{Kept, kept-count, cut_short}
-use borrow.Author.Rules.{rules}
+use Rattle.sheet.proofs.CutLaws.{kept-count, cut_short}
 use Rattle.sheet.proofs.judge.judge.Goals as goal
 use Rattle.sheet.proofs.judge.judge.Goals.{After-write_numbers-end}
 

@@ -1,9 +1,6 @@
 -- Of the first n bytes the first i end k numbers.
-use Prim.Native.Nat.{◌-◌, ◌≤◌}
-use mathlib.Core.Logic.{⊎_elim}
 use native.Mathlib.Omega.{arith}
-use Rattle.sheet.proofs.CountSteps.{Counted, counted_none, counted-last, counted_inner, counted_past, counted-all}
-use borrow.Author.Rules.{rules}
+use Rattle.sheet.proofs.CountSteps.{counted_none, counted-last, counted_inner, counted_past, counted-all}
 use Rattle.sheet.proofs.judge.numbers_in.Goals as goal
 use Rattle.sheet.proofs.judge.numbers_in.Goals.{then-i-n+then-bytes-i-lt128, then-i-n+else-bytes-i-lt128, else-i-n}
 
@@ -17,9 +14,10 @@ pub loop-i-preserved : goal.loop-i-preserved
 loop-i-preserved c = (
   omega arith,
   elim c.if-i-n.branch [
-      then-i-n+then-bytes-i-lt128 w ↦ counted-last _ _ _ _ _ c.loop-i.invariant.1 w.k-is c.loop-i-test.true w.if-i-n.true w.if-bytes-i-lt128.true
+    | then-i-n+then-bytes-i-lt128 w ↦ counted-last _ _ _ _ _ c.loop-i.invariant.1 w.k-is c.loop-i-test.true w.if-i-n.true w.if-bytes-i-lt128.true
     | then-i-n+else-bytes-i-lt128 w ↦ counted_inner _ _ _ _ _ c.loop-i.invariant.1 w.k-is c.loop-i-test.true w.if-i-n.true w.if-bytes-i-lt128.false
-    | else-i-n w ↦ counted_past _ _ _ _ _ c.loop-i.invariant.1 w.k-is w.if-i-n.false ],
+    | else-i-n w ↦ counted_past _ _ _ _ _ c.loop-i.invariant.1 w.k-is w.if-i-n.false
+  ],
 )
 
 pub returns : goal.returns
