@@ -11,7 +11,7 @@ onwards : (c : After-move_on-g) → c.move_on-g.result ≡ moved (begun c.args.f
 onwards c = c.move_on-g.ensures ∙ ap moved c.begin.ensures
 
 at_rest : (c : After-settle-h) → c.settle-h.result ≡ settled (moved (begun c.args.f))
-at_rest c = c.settle-h.ensures ∙ ap settled (onwards c.before?After-move_on-g)
+at_rest c = c.settle-h.ensures ∙ ap settled (c.move_on-g.ensures ∙ ap moved c.begin.ensures)
 
 pub returns-then-b-eq10 : goal.returns-then-b-eq10
 unfolding fed

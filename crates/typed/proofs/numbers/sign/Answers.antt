@@ -12,7 +12,7 @@ use Rattle.typed.proofs.numbers.sign.Goals as goal
 pub returns-then-is_signed : goal.returns-then-is_signed
 unfolding signed
 returns-then-is_signed c =
-    ap (λ (z : ℤ). record { number = true; value = z }) (to_z-of_z w32 _ (record { sfits = c.valued-value.type-inv }) ∙ c.valued-value.ensures) ∙ sym (pick_first _ _ (sym c.is_signed.ensures ∙ c.if-is_signed.true))
+    ap (λ (z : ℤ). record { number = true; value = z }) (to_z-of_z w32 _ (record { sfits = c.valued-value.type_inv }) ∙ c.valued-value.ensures) ∙ sym (pick_first _ _ (sym c.is_signed.ensures ∙ c.if-is_signed.true))
 
 pub returns : goal.returns
 unfolding signed pick
