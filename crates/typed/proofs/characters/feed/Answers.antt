@@ -3,7 +3,6 @@ use mathlib.Core.Path.{◌≡◌, sym, ◌∙◌, ap}
 use Rattle.typed.specs.Fields.{begun, moved, taken, settled, held, ended_by, fed}
 use Rattle.typed.specs.declared.Field.{Field}
 use Rattle.typed.proofs.FieldLaws.{character-lf, character_cr, character_comma, character_other}
-use borrow.Author.Rules.{rules}
 use Rattle.typed.proofs.characters.feed.Goals as goal
 use Rattle.typed.proofs.characters.feed.Goals.{After-move_on-g, After-settle-h}
 

@@ -6,7 +6,6 @@ use Rattle.typed.proofs.FieldLaws.{pick_first}
 use lib.IntN.{ℤ}
 use mir.Syntax.{w32}
 use mir.ValLaws.{to_z-of_z}
-use borrow.Author.Rules.{rules}
 use Rattle.typed.proofs.numbers.sign.Goals as goal
 
 pub returns-then-is_signed : goal.returns-then-is_signed

@@ -9,7 +9,6 @@ use lib.IntN.{ℤ, pos, neg_ℤ, ◌-ℤ◌}
 use mir.Syntax.{w32}
 use mir.Val.{SFits, to_z, of_z}
 use mir.ValLaws.{to_z-of_z}
-use borrow.Author.Rules.{rules}
 use Rattle.typed.proofs.numbers.valued.Goals as goal
 use Rattle.typed.proofs.numbers.valued.Goals.{After-smaller-v, Then-f-eq45}
 
