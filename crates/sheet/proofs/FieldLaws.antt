@@ -2,11 +2,11 @@
 use Prim.Native.Nat.{ℕ, suc, ◌+◌, ◌-◌, ◌*◌, ◌≤◌, ◌<◌}
 use mathlib.Core.Path.{◌≡◌, refl, sym, ◌∙◌, ap}
 use mathlib.Core.List.{List, [], ◌∷◌}
-use mathlib.Core.Bool.{Bool, true, false, not, true≢false}
+use mathlib.Core.Bool.{Bool, true, false, true≢false}
 use native.Mathlib.Omega.{arith}
 use lib.ListN.{length, get_or, take, drop, length-drop, drop_of_length-le}
 use lib.Dec.{eqb, ltb, leb}
-use borrow.Author.Tests.{le-leb, lt-leb, leb-true, ltb-true, ltb-false, lt-ltb, le-ltb, eq-eqb, ne_eqb, not-true, not-false}
+use borrow.Author.Tests.{le-leb, lt-leb, leb-true, ltb-true, ltb-false, lt-ltb, le-ltb, eq-eqb, ne_eqb}
 use Rattle.basis.specs.Tests.{pick, and}
 use Rattle.basis.proofs.TestLaws.{by_test, and_both, or-true}
 use Rattle.basis.proofs.ListLaws.{drop-some}
@@ -193,14 +193,14 @@ pub record Along (s : List ℕ) (at end : ℕ) (over : Bool) : Type 0 where
   pub rest : end + length (field (drop end s)) ≡ at + length (field (drop at s))
   pub tells : over ≡ field_ends (drop end s)
 
-pub along_open : {s : List ℕ} {at end : ℕ} {over : Bool} → Along s at end over → not over ≡ true
+pub along_open : {s : List ℕ} {at end : ℕ} {over : Bool} → Along s at end over → over ≡ false
     → (end < length s) × (end + 1 + length (field (drop (end + 1) s)) ≡ at + length (field (drop at s)))
 along_open {s} {at} {end} {over} i t =
-    let o : field_ends (drop end s) ≡ false = sym i.tells ∙ not-true over t in
+    let o : field_ends (drop end s) ≡ false = sym i.tells ∙ t in
     (field-inside s end o, omega (arith, i.rest, field_open s end o))
 
-pub along_shut : {s : List ℕ} {at end : ℕ} {over : Bool} → Along s at end over → not over ≡ false → end ≡ at + length (field (drop at s))
-along_shut {s} {at} {end} {over} i t = omega (arith, i.rest, ap length (field_nil (drop end s) (sym i.tells ∙ not-false over t)))
+pub along_shut : {s : List ℕ} {at end : ℕ} {over : Bool} → Along s at end over → over ≡ true → end ≡ at + length (field (drop at s))
+along_shut {s} {at} {end} {over} i t = omega (arith, i.rest, ap length (field_nil (drop end s) (sym i.tells ∙ t)))
 
 -- One turn over characters that are digits so far.
 module _ (f : List ℕ) (i b : ℕ) (e : all_digits (drop i f) ≡ all_digits f) (q : b ≡ get_or f i 0) (h : i < length f) where

@@ -3,14 +3,13 @@ use Prim.Native.Nat.{◌+◌, ◌-◌, ◌≤◌}
 use mathlib.Core.Path.{sym, ◌∙◌}
 use native.Mathlib.Omega.{arith}
 use lib.ListN.{length}
-use borrow.Author.Tests.{leb-true, leb-false, not-true, not-false}
+use borrow.Author.Tests.{leb-true, leb-false}
 use Rattle.phrase.specs.Phrase.{filled}
 use Rattle.report.proofs.TextLaws.{print_short, print_done}
-use borrow.Author.Rules.{rules}
 use Rattle.phrase.proofs.fill.Goals as goal
 use Rattle.phrase.proofs.fill.Goals.{Else-not-is_roomy}
 
-roomy : (c : Else-not-is_roomy) → 
+roomy : (c : Else-not-is_roomy) →
     c.args.at + length (filled c.args.template.now c.args.numbers.now) ≤ length c.args.buf.now
 roomy c =
     omega (arith, leb-true (length (filled c.args.template.now c.args.numbers.now)) (length c.args.buf.now - c.args.at) (sym c.is_roomy.ensures ∙ c.if-not-is_roomy.false), c.if-len-at.false)

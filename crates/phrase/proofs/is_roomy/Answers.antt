@@ -1,11 +1,9 @@
 -- What is left of the room is the room less what the characters before i take.
-use Prim.Native.Nat.{◌-◌, ◌≤◌}
 use mathlib.Core.Path.{refl, sym}
 use native.Mathlib.Omega.{arith}
 use lib.ListN.{get_or}
 use borrow.Author.Tests.{le-leb, lt-leb}
-use Rattle.phrase.proofs.PhraseLaws.{used_small, Leaving, leaving_goes, leaving_short, leaving_ends}
-use borrow.Author.Rules.{rules}
+use Rattle.phrase.proofs.PhraseLaws.{used_small, leaving_goes, leaving_short, leaving_ends}
 use Rattle.phrase.proofs.is_roomy.Goals as goal
 
 pub loop-i-init : goal.loop-i-init
@@ -16,12 +14,11 @@ returns-then-left-size c =
     sym (lt-leb _ _ (leaving_short _ _ c.loop-i.invariant.2 c.loop-i-test.true c.number_at-n.ensures c.piece_size-size.ensures c.if-left-size.true))
 
 pub loop-i-preserved : goal.loop-i-preserved
-loop-i-preserved c =
-    (
-      omega arith,
-      omega (arith, c.loop-i.invariant.1, c.used_up-j.ensures, used_small (get_or c.args.template.now c.loop-i.i 0)),
-      leaving_goes _ _ c.loop-i.invariant.2 c.loop-i-test.true c.number_at-n.ensures c.piece_size-size.ensures c.used_up-j.ensures c.if-left-size.false,
-    )
+loop-i-preserved c = (
+  omega arith,
+  omega (arith, c.loop-i.invariant.1, c.used_up-j.ensures, used_small (get_or c.args.template.now c.loop-i.i 0)),
+  leaving_goes _ _ c.loop-i.invariant.2 c.loop-i-test.true c.number_at-n.ensures c.piece_size-size.ensures c.used_up-j.ensures c.if-left-size.false,
+)
 
 pub returns : goal.returns
 returns c = sym (le-leb _ _ (leaving_ends _ _ c.loop-i.invariant.2 c.loop-i-test.false))

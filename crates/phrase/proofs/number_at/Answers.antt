@@ -1,7 +1,6 @@
 -- The number that stands there, or the zero behind the last.
 use mathlib.Core.Path.{sym}
 use lib.ListN.{get_or-eq_default}
-use borrow.Author.Rules.{rules}
 use Rattle.phrase.proofs.number_at.Goals as goal
 
 pub returns-then-numbers-j : goal.returns-then-numbers-j

@@ -1,6 +1,5 @@
 -- A hole takes the places of its number, every other character one.
 use Rattle.phrase.proofs.PhraseLaws.{piece_hole, piece_other}
-use borrow.Author.Rules.{rules}
 use Rattle.phrase.proofs.piece_size.Goals as goal
 
 pub returns-then-b-eq35 : goal.returns-then-b-eq35

@@ -1,10 +1,8 @@
 -- The characters before i are filled in, with j numbers used up: each turn fills in one more.
-use Prim.Native.Nat.{◌-◌, ◌≤◌}
 use native.Mathlib.Omega.{arith}
 use lib.ListN.{get_or}
 use Rattle.writer.proofs.WriterLaws.{put-length}
-use Rattle.phrase.proofs.PhraseLaws.{used_small, Filling, filling_starts, filling_room, filling_goes, filling_ends}
-use borrow.Author.Rules.{rules}
+use Rattle.phrase.proofs.PhraseLaws.{used_small, filling_starts, filling_room, filling_goes, filling_ends}
 use Rattle.phrase.proofs.put_filled.Goals as goal
 
 pub loop-i-init : goal.loop-i-init
@@ -15,12 +13,11 @@ put_piece-k-requires c =
     filling_room _ _ c.loop-i.invariant.2 c.requires c.loop-i-test.true c.number_at-n.ensures
 
 pub loop-i-preserved : goal.loop-i-preserved
-loop-i-preserved c =
-    (
-      omega (arith, c.loop-i-test.true),
-      omega (arith, c.loop-i.invariant.1, c.used_up-j.ensures, used_small (get_or c.args.template.now c.loop-i.i 0)),
-      filling_goes _ _ c.loop-i.invariant.2 c.loop-i-test.true c.number_at-n.ensures c.used_up-j.ensures c.put_piece-k.ensures,
-    )
+loop-i-preserved c = (
+  omega (arith, c.loop-i-test.true),
+  omega (arith, c.loop-i.invariant.1, c.used_up-j.ensures, used_small (get_or c.args.template.now c.loop-i.i 0)),
+  filling_goes _ _ c.loop-i.invariant.2 c.loop-i-test.true c.number_at-n.ensures c.used_up-j.ensures c.put_piece-k.ensures,
+)
 
 pub shape_of-buf : goal.shape_of-buf
 shape_of-buf c = put-length c.loop-i.invariant.2.put

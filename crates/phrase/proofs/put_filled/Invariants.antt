@@ -1,10 +1,6 @@
 -- The characters before i are filled in, with j numbers used up: each turn fills in one more.
-use Prim.Native.Nat.{◌-◌, ◌≤◌}
-use native.Mathlib.Omega.{arith}
-use lib.ListN.{get_or}
-use Rattle.writer.proofs.WriterLaws.{put-length}
-use Rattle.phrase.proofs.PhraseLaws.{used_small, Filling, filling_starts, filling_room, filling_goes, filling_ends}
-use borrow.Author.Rules.{rules}
+use Prim.Native.Nat.{◌≤◌}
+use Rattle.phrase.proofs.PhraseLaws.{Filling}
 use Rattle.phrase.proofs.put_filled.Given as goal
 
 abbrev pub invariant-loop-i : goal.invariant-loop-i

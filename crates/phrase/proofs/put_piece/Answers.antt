@@ -3,7 +3,6 @@ use mathlib.Core.Path.{ap}
 use native.Mathlib.Omega.{arith}
 use lib.ListN.{length}
 use Rattle.phrase.proofs.PhraseLaws.{piece_hole, piece_other}
-use borrow.Author.Rules.{rules}
 use Rattle.phrase.proofs.put_piece.Goals as goal
 
 pub put_number-requires : goal.put_number-requires

@@ -1,7 +1,6 @@
 -- One more behind a hole, and else none.
 use native.Mathlib.Omega.{arith}
 use Rattle.phrase.proofs.PhraseLaws.{used_hole, used_other}
-use borrow.Author.Rules.{rules}
 use Rattle.phrase.proofs.used_up.Goals as goal
 
 pub returns-then-b-eq35 : goal.returns-then-b-eq35

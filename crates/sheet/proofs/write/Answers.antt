@@ -4,12 +4,10 @@ use mathlib.Core.Path.{◌≡◌, sym, ◌∙◌}
 use mathlib.Core.Bool.{true}
 use native.Mathlib.Omega.{arith}
 use lib.ListN.{length}
-use borrow.Author.Tests.{not-true, not-false}
 use Rattle.table.specs.Legal.{legal}
 use Rattle.table.proofs.LegalLaws.{legal_small}
 use Rattle.sheet.specs.Text.{text}
 use Rattle.sheet.proofs.SheetWriterLaws.{told-bad, told-short, told-done}
-use borrow.Author.Rules.{rules}
 use Rattle.sheet.proofs.write.Goals as goal
 use Rattle.sheet.proofs.write.Goals.{Else-len-at-2, Else-not-legal}
 

@@ -1,10 +1,7 @@
 -- What is left of the field is what was left at its start, less the characters passed.
 use Prim.Native.Nat.{◌-◌}
-use mathlib.Core.Path.{refl}
-use native.Mathlib.Omega.{arith}
 use lib.ListN.{length}
-use Rattle.sheet.proofs.FieldLaws.{Along, along_open, along_shut}
-use borrow.Author.Rules.{rules}
+use Rattle.sheet.proofs.FieldLaws.{Along}
 use Rattle.sheet.proofs.field.field_end.Given as goal
 
 abbrev pub invariant-loop-over : goal.invariant-loop-over

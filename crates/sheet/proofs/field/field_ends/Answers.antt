@@ -1,6 +1,5 @@
 use mathlib.Core.Path.{sym}
 use Rattle.sheet.proofs.FieldLaws.{ends_last, at_comma, at_other, at_lone_return, at_return}
-use borrow.Author.Rules.{rules}
 use Rattle.sheet.proofs.field.field_ends.Goals as goal
 
 pub returns-then-s-at : goal.returns-then-s-at

@@ -1,10 +1,6 @@
-use Prim.Native.Nat.{◌-◌, ◌≤◌}
-use mathlib.Core.Path.{◌≡◌, refl, sym, ◌∙◌}
+use mathlib.Core.Path.{refl, sym, ◌∙◌}
 use native.Mathlib.Omega.{arith}
-use lib.ListN.{drop}
-use Rattle.sheet.specs.Field.{all_digits}
 use Rattle.sheet.proofs.FieldLaws.{digits-none, digits_low, digits_high, digits_on}
-use borrow.Author.Rules.{rules}
 use Rattle.sheet.proofs.field.is_digits.Goals as goal
 
 pub loop-i-init : goal.loop-i-init

@@ -1,6 +1,5 @@
 use mathlib.Core.Path.{sym}
 use Rattle.sheet.proofs.FieldLaws.{padded-short, padded_long}
-use borrow.Author.Rules.{rules}
 use Rattle.sheet.proofs.field.is_padded.Goals as goal
 
 pub returns-then-f-lt2 : goal.returns-then-f-lt2

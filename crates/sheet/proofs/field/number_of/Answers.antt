@@ -1,9 +1,7 @@
 use mathlib.Core.Path.{◌≡◌, sym, ◌∙◌}
 use mathlib.Core.Bool.{true, false}
-use borrow.Author.Tests.{not-true, not-false}
 use Rattle.sheet.specs.Field.{zero_first, all_digits}
 use Rattle.sheet.proofs.FieldLaws.{judged-padded, judged_strange, judged_over, judged_value}
-use borrow.Author.Rules.{rules}
 use Rattle.sheet.proofs.field.number_of.Goals as goal
 use Rattle.sheet.proofs.field.number_of.Goals.{Else-is_padded, Else-not-is_digits}
 
@@ -23,7 +21,7 @@ pub value_of-v-requires : goal.value_of-v-requires
 value_of-v-requires c = digits c
 
 pub returns-then-v-gt65535 : goal.returns-then-v-gt65535
-returns-then-v-gt65535 c = judged_over _ _ (unpadded (goal.at.returns-then-v-gt65535 c).Else-is_padded) (digits (goal.at.returns-then-v-gt65535 c).Else-not-is_digits) _ c.value_of_lem.ensures c.if-v-gt65535.true
+returns-then-v-gt65535 c = judged_over _ _ (unpadded (goal.at.returns-then-v-gt65535 c).Else-is_padded) (digits (goal.at.returns-then-v-gt65535 c).Else-not-is_digits) _ c.value_of-v.ensures c.if-v-gt65535.true
 
 pub returns : goal.returns
-returns c = judged_value _ _ (unpadded (goal.at.returns c).Else-is_padded) (digits (goal.at.returns c).Else-not-is_digits) _ c.value_of_lem.ensures c.if-v-gt65535.false
+returns c = judged_value _ _ (unpadded (goal.at.returns c).Else-is_padded) (digits (goal.at.returns c).Else-not-is_digits) _ c.value_of-v.ensures c.if-v-gt65535.false

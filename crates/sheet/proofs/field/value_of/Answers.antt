@@ -1,12 +1,7 @@
 -- The digits so far have the value v, which is small.
-use Prim.Native.Nat.{◌-◌, ◌≤◌}
-use mathlib.Core.Path.{◌≡◌, refl, sym}
-use mathlib.Core.Bool.{true}
+use mathlib.Core.Path.{refl, sym}
 use native.Mathlib.Omega.{arith}
-use lib.ListN.{drop}
-use Rattle.sheet.specs.Field.{all_digits, value_from}
 use Rattle.sheet.proofs.FieldLaws.{digit_at, value_over, value_on, value_done}
-use borrow.Author.Rules.{rules}
 use Rattle.sheet.proofs.field.value_of.Goals as goal
 
 pub loop-i-init : goal.loop-i-init

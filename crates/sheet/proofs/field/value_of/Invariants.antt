@@ -1,12 +1,9 @@
 -- The digits so far have the value v, which is small.
-use Prim.Native.Nat.{◌-◌, ◌≤◌}
-use mathlib.Core.Path.{◌≡◌, refl, sym}
+use Prim.Native.Nat.{◌≤◌}
+use mathlib.Core.Path.{◌≡◌}
 use mathlib.Core.Bool.{true}
-use native.Mathlib.Omega.{arith}
 use lib.ListN.{drop}
 use Rattle.sheet.specs.Field.{all_digits, value_from}
-use Rattle.sheet.proofs.FieldLaws.{digit_at, value_over, value_on, value_done}
-use borrow.Author.Rules.{rules}
 use Rattle.sheet.proofs.field.value_of.Given as goal
 
 abbrev pub invariant-loop-i : goal.invariant-loop-i

@@ -8,7 +8,6 @@ use borrow.Author.Tests.{eqb-true, eqb-false, eq-eqb, ne_eqb, not-true, not-fals
 use Rattle.basis.proofs.TestLaws.{by_test}
 use Rattle.sheet.specs.Scan.{ends_wrong}
 use Rattle.sheet.specs.declared.Cutting.{Cutting}
-use borrow.Author.Rules.{rules}
 use Rattle.sheet.proofs.judge.ends_wrong.Goals as goal
 
 -- The last of some is number k where there are k + 1.

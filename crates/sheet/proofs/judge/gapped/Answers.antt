@@ -1,6 +1,5 @@
 use Rattle.basis.specs.Tests.{pick}
 use Rattle.sheet.specs.Scan.{scanned, numbers_in, start_of, gapped_by}
-use borrow.Author.Rules.{rules}
 use Rattle.sheet.proofs.judge.gapped.Goals as goal
 
 pub returns-then-ends_wrong : goal.returns-then-ends_wrong

@@ -1,6 +1,5 @@
 -- The three arms join what the byte form says with the text's own fault, which is the law `scan_reads`.
 use Rattle.sheet.proofs.ScanReads.{judged_so, passed_so}
-use borrow.Author.Rules.{rules}
 use Rattle.sheet.proofs.judge.judge_bytes.Goals as goal
 
 pub returns-in-Accepted : goal.returns-in-Accepted

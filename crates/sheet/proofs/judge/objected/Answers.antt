@@ -1,7 +1,6 @@
 use borrow.Author.Tests.{eq-eqb, ne_eqb}
 use Rattle.basis.specs.Tests.{pick}
 use Rattle.sheet.specs.Scan.{scanned, numbers_in, start_of, objected_by}
-use borrow.Author.Rules.{rules}
 use Rattle.sheet.proofs.judge.objected.Goals as goal
 
 pub returns-then-why-eq1 : goal.returns-then-why-eq1

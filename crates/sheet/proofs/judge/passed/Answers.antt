@@ -8,9 +8,7 @@ use Rattle.basis.specs.Tests.{pick}
 use Rattle.reader.specs.Reader.{Read, refused_at}
 use Rattle.sheet.specs.Scan.{own, passed_by}
 use Rattle.sheet.specs.declared.Cutting.{Cutting}
-use borrow.Author.Rules.{rules}
 use Rattle.sheet.proofs.judge.passed.Goals as goal
-
 
 module _ (s : List ℕ) (c : Cutting) (r : Read) where
   faulty : c.refusal ≢ 0 → own c ≡ passed_by s c r

@@ -4,7 +4,6 @@ use native.Mathlib.Omega.{arith}
 use lib.ListN.{length}
 use Rattle.writer.proofs.WriterLaws.{put_join, put-length}
 use Rattle.sheet.proofs.LineLaws.{ending-last, ending_more}
-use borrow.Author.Rules.{rules}
 use Rattle.sheet.proofs.put.put_ending.Goals as goal
 
 pub put_byte-a-requires : goal.put_byte-a-requires

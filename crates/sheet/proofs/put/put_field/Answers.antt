@@ -4,7 +4,6 @@ use lib.ListN.{length-append}
 use Rattle.decimal.specs.Decimal.{decimal}
 use Rattle.writer.proofs.WriterLaws.{put_join, put_room, room_part}
 use Rattle.sheet.specs.Text.{ending}
-use borrow.Author.Rules.{rules}
 use Rattle.sheet.proofs.put.put_field.Goals as goal
 
 pub put_number-a-requires : goal.put_number-a-requires

@@ -1,13 +1,7 @@
 -- The first i fields are put: each turn joins the next to them.
-use Prim.Native.Nat.{◌≤◌, ◌-◌}
-use mathlib.Core.Path.{◌≡◌}
-use native.Mathlib.Omega.{arith}
-use lib.ListN.{length}
+use Prim.Native.Nat.{◌≤◌}
 use Rattle.writer.specs.Buffer.{Put}
-use Rattle.writer.proofs.WriterLaws.{put-none, put_join, put_room, put-length}
 use Rattle.sheet.specs.Text.{line_part}
-use Rattle.sheet.proofs.LineLaws.{line-next, line_room}
-use borrow.Author.Rules.{rules}
 use Rattle.sheet.proofs.put.put_line.Given as goal
 
 abbrev pub invariant-loop-i : goal.invariant-loop-i

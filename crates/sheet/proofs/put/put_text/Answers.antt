@@ -1,7 +1,6 @@
 -- The three parts of a text are put one after the other.
 use Rattle.writer.proofs.WriterLaws.{put_join, put_room, room_part}
 use Rattle.sheet.proofs.LineLaws.{text_parts, parts_room}
-use borrow.Author.Rules.{rules}
 use Rattle.sheet.proofs.put.put_text.Goals as goal
 
 pub put_line-a-requires : goal.put_line-a-requires

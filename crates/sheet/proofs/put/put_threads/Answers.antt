@@ -1,12 +1,9 @@
 -- The first i threads are put: each turn joins the next to them.
-use Prim.Native.Nat.{◌≤◌, ◌-◌}
 use mathlib.Core.Path.{◌≡◌}
 use native.Mathlib.Omega.{arith}
-use Rattle.writer.specs.Buffer.{Put}
 use Rattle.writer.proofs.WriterLaws.{put-none, put_join, put_room, put-length}
 use Rattle.sheet.specs.Text.{thread_lines}
 use Rattle.sheet.proofs.LineLaws.{thread_lines-next, thread_lines_room}
-use borrow.Author.Rules.{rules}
 use Rattle.sheet.proofs.put.put_threads.Goals as goal
 
 pub loop-i-init : goal.loop-i-init

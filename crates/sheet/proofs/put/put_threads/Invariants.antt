@@ -1,12 +1,7 @@
 -- The first i threads are put: each turn joins the next to them.
-use Prim.Native.Nat.{◌≤◌, ◌-◌}
-use mathlib.Core.Path.{◌≡◌}
-use native.Mathlib.Omega.{arith}
+use Prim.Native.Nat.{◌≤◌}
 use Rattle.writer.specs.Buffer.{Put}
-use Rattle.writer.proofs.WriterLaws.{put-none, put_join, put_room, put-length}
 use Rattle.sheet.specs.Text.{thread_lines}
-use Rattle.sheet.proofs.LineLaws.{thread_lines-next, thread_lines_room}
-use borrow.Author.Rules.{rules}
 use Rattle.sheet.proofs.put.put_threads.Given as goal
 
 abbrev pub invariant-loop-i : goal.invariant-loop-i

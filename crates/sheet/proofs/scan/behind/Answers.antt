@@ -1,6 +1,5 @@
 use Rattle.basis.specs.Tests.{pick}
 use Rattle.sheet.specs.Text.{ending}
-use borrow.Author.Rules.{rules}
 use Rattle.sheet.proofs.scan.behind.Goals as goal
 
 pub returns-then-last : goal.returns-then-last

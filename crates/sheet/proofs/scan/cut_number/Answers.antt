@@ -1,5 +1,4 @@
 use Rattle.sheet.specs.Scan.{number_cut}
-use borrow.Author.Rules.{rules}
 use Rattle.sheet.proofs.scan.cut_number.Goals as goal
 
 pub returns : goal.returns

@@ -1,7 +1,6 @@
 use Prim.Native.Nat.{◌*◌, ◌≤◌}
 use native.Mathlib.Nat.{mul-le-mul}
 use native.Mathlib.Omega.{arith}
-use borrow.Author.Rules.{rules}
 use Rattle.sheet.proofs.scan.due.Goals as goal
 use Rattle.sheet.proofs.scan.due.Goals.{After-width-w}
 

@@ -1,7 +1,6 @@
 use borrow.Author.Tests.{eq-eqb, ne_eqb}
 use Rattle.basis.specs.Tests.{pick}
 use Rattle.sheet.specs.Sheet.{end_fault}
-use borrow.Author.Rules.{rules}
 use Rattle.sheet.proofs.scan.end_refusal.Goals as goal
 
 pub returns-then-last : goal.returns-then-last

@@ -1,6 +1,5 @@
 use borrow.Author.Tests.{lt-ltb, le-ltb, eq-eqb, ne_eqb}
 use Rattle.sheet.specs.Scan.{goes_on}
-use borrow.Author.Rules.{rules}
 use Rattle.sheet.proofs.scan.goes_on.Goals as goal
 
 pub returns-then-c-ne0 : goal.returns-then-c-ne0

@@ -3,7 +3,6 @@ use native.Mathlib.Omega.{arith}
 use lib.ListN.{get_or}
 use Rattle.table.proofs.RangeLaws.{fields_in_least}
 use Rattle.sheet.proofs.ScanSteps.{line-short, line_head, line-rows, line_threads}
-use borrow.Author.Rules.{rules}
 use Rattle.sheet.proofs.scan.is_line_over.Goals as goal
 
 pub returns-then-n-lt3 : goal.returns-then-n-lt3

@@ -1,7 +1,6 @@
 use mathlib.Core.Path.{sym}
 use native.Mathlib.Omega.{arith}
 use Rattle.sheet.proofs.ScanSteps.{wanted-short, wanted_long}
-use borrow.Author.Rules.{rules}
 use Rattle.sheet.proofs.scan.is_wanted.Goals as goal
 
 pub returns-then-n-lt3 : goal.returns-then-n-lt3

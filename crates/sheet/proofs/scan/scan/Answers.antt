@@ -1,10 +1,8 @@
-use Prim.Native.Nat.{◌-◌, ◌≤◌}
-use mathlib.Core.Path.{◌≡◌, refl, ◌∙◌, ap}
+use mathlib.Core.Path.{refl, ◌∙◌, ap}
 use native.Mathlib.Nat.{le_antisymm}
 use native.Mathlib.Omega.{arith}
 use Rattle.sheet.specs.Scan.{scanned}
 use Rattle.sheet.proofs.ScanSteps.{scanned-next}
-use borrow.Author.Rules.{rules}
 use Rattle.sheet.proofs.scan.scan.Goals as goal
 
 pub loop-i-init : goal.loop-i-init

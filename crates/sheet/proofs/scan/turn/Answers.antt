@@ -1,13 +1,11 @@
 use mathlib.Core.Path.{◌≡◌, sym, ◌∙◌, subst}
 use mathlib.Core.Bool.{true}
 use lib.ListN.{length}
-use borrow.Author.Tests.{not-true, not-false}
 use Rattle.basis.specs.Tests.{pick}
 use Rattle.numeral.specs.declared.Number.{Number}
 use Rattle.sheet.specs.Field.{Inside}
 use Rattle.sheet.specs.Scan.{goes_on, turned}
 use Rattle.sheet.proofs.CutLaws.{going}
-use borrow.Author.Rules.{rules}
 use Rattle.sheet.proofs.scan.turn.Goals as goal
 use Rattle.sheet.proofs.scan.turn.Goals.{Else-not-goes_on}
 

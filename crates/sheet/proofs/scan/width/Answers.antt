@@ -1,7 +1,6 @@
 use mathlib.Core.Path.{◌∙◌}
 use Rattle.table.proofs.RangeLaws.{fields_in-most}
 use Rattle.sheet.proofs.ScanSteps.{fields-above}
-use borrow.Author.Rules.{rules}
 use Rattle.sheet.proofs.scan.width.Goals as goal
 
 pub returns-then-version-lt256 : goal.returns-then-version-lt256

@@ -5,7 +5,6 @@ use lib.ListN.{length-append}
 use Rattle.decimal.specs.Decimal.{decimal}
 use Rattle.decimal.proofs.DecimalLaws.{decimal-short}
 use Rattle.sheet.specs.Text.{ending}
-use borrow.Author.Rules.{rules}
 use Rattle.sheet.proofs.size.field_size.Goals as goal
 use Rattle.sheet.proofs.size.field_size.Goals.{After-places-digits}
 

@@ -1,11 +1,9 @@
 -- The sizes of the fields add up as the line grows.
-use Prim.Native.Nat.{◌*◌, ◌-◌, ◌≤◌}
 use mathlib.Core.Path.{◌≡◌, refl}
 use native.Mathlib.Omega.{arith}
 use lib.ListN.{length}
 use Rattle.sheet.specs.Text.{line_part}
 use Rattle.sheet.proofs.LineLaws.{line-length}
-use borrow.Author.Rules.{rules}
 use Rattle.sheet.proofs.size.line_size.Goals as goal
 
 pub loop-i-init : goal.loop-i-init

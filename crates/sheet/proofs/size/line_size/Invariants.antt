@@ -1,11 +1,8 @@
 -- The sizes of the fields add up as the line grows.
-use Prim.Native.Nat.{◌*◌, ◌-◌, ◌≤◌}
-use mathlib.Core.Path.{◌≡◌, refl}
-use native.Mathlib.Omega.{arith}
+use Prim.Native.Nat.{◌*◌, ◌≤◌}
+use mathlib.Core.Path.{◌≡◌}
 use lib.ListN.{length}
 use Rattle.sheet.specs.Text.{line_part}
-use Rattle.sheet.proofs.LineLaws.{line-length}
-use borrow.Author.Rules.{rules}
 use Rattle.sheet.proofs.size.line_size.Given as goal
 
 abbrev pub invariant-loop-i : goal.invariant-loop-i

@@ -1,7 +1,6 @@
 -- The size of a text is that of its three parts.
 use native.Mathlib.Omega.{arith}
 use Rattle.sheet.proofs.LineLaws.{parts_length}
-use borrow.Author.Rules.{rules}
 use Rattle.sheet.proofs.size.text_size.Goals as goal
 
 pub returns : goal.returns

@@ -5,7 +5,6 @@ use native.Mathlib.Omega.{arith}
 use lib.ListN.{length}
 use lib.Seq.{length-take-le}
 use Rattle.table.proofs.RangeLaws.{fields_in-most}
-use borrow.Author.Rules.{rules}
 use Rattle.sheet.proofs.size.thread_size.Goals as goal
 use Rattle.sheet.proofs.size.thread_size.Goals.{After-fields_in-n}
 

@@ -1,11 +1,8 @@
 -- The sizes of the threads add up as their lines join.
-use Prim.Native.Nat.{◌*◌, ◌≤◌, ◌-◌}
 use mathlib.Core.Path.{◌≡◌, refl}
 use native.Mathlib.Omega.{arith}
-use lib.ListN.{length}
 use Rattle.sheet.specs.Text.{thread_lines}
 use Rattle.sheet.proofs.LineLaws.{thread_lines-length}
-use borrow.Author.Rules.{rules}
 use Rattle.sheet.proofs.size.threads_size.Goals as goal
 
 pub loop-i-init : goal.loop-i-init

@@ -1,11 +1,8 @@
 -- The sizes of the threads add up as their lines join.
-use Prim.Native.Nat.{◌*◌, ◌≤◌, ◌-◌}
-use mathlib.Core.Path.{◌≡◌, refl}
-use native.Mathlib.Omega.{arith}
+use Prim.Native.Nat.{◌*◌, ◌≤◌}
+use mathlib.Core.Path.{◌≡◌}
 use lib.ListN.{length}
 use Rattle.sheet.specs.Text.{thread_lines}
-use Rattle.sheet.proofs.LineLaws.{thread_lines-length}
-use borrow.Author.Rules.{rules}
 use Rattle.sheet.proofs.size.threads_size.Given as goal
 
 abbrev pub invariant-loop-i : goal.invariant-loop-i

@@ -3,7 +3,6 @@ use mathlib.Core.Path.{◌∙◌, ap}
 use borrow.Author.Tests.{eq-eqb, ne_eqb}
 use Rattle.basis.specs.Tests.{pick}
 use Rattle.typed.specs.Fields.{settled, ended_by, closed}
-use borrow.Author.Rules.{rules}
 use Rattle.typed.proofs.characters.close.Goals as goal
 
 pub returns-then-f-eq2 : goal.returns-then-f-eq2

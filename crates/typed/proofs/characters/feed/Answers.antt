@@ -3,7 +3,6 @@ use mathlib.Core.Path.{◌≡◌, sym, ◌∙◌, ap}
 use Rattle.typed.specs.Fields.{begun, moved, taken, settled, held, ended_by, fed}
 use Rattle.typed.specs.declared.Field.{Field}
 use Rattle.typed.proofs.FieldLaws.{character-lf, character_cr, character_comma, character_other}
-use borrow.Author.Rules.{rules}
 use Rattle.typed.proofs.characters.feed.Goals as goal
 use Rattle.typed.proofs.characters.feed.Goals.{After-move_on-g, After-settle-h}
 
@@ -11,7 +10,7 @@ onwards : (c : After-move_on-g) → c.move_on-g.result ≡ moved (begun c.args.f
 onwards c = c.move_on-g.ensures ∙ ap moved c.begin.ensures
 
 at_rest : (c : After-settle-h) → c.settle-h.result ≡ settled (moved (begun c.args.f))
-at_rest c = c.settle-h.ensures ∙ ap settled (onwards c.before?After-move_on-g)
+at_rest c = c.settle-h.ensures ∙ ap settled (c.move_on-g.ensures ∙ ap moved c.begin.ensures)
 
 pub returns-then-b-eq10 : goal.returns-then-b-eq10
 unfolding fed

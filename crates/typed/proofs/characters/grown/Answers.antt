@@ -1,8 +1,7 @@
 use mathlib.Core.Path.{sym, ◌∙◌}
-use borrow.Author.Tests.{lt-ltb, le-ltb, not-true, not-false}
+use borrow.Author.Tests.{lt-ltb, le-ltb}
 use Rattle.basis.specs.Tests.{pick}
 use Rattle.typed.specs.Fields.{grown}
-use borrow.Author.Rules.{rules}
 use Rattle.typed.proofs.characters.grown.Goals as goal
 
 pub returns-then-not-is_digit : goal.returns-then-not-is_digit

@@ -1,4 +1,3 @@
-use borrow.Author.Rules.{rules}
 use Rattle.typed.proofs.characters.is_spoilt.Goals as goal
 
 pub returns-then-f : goal.returns-then-f

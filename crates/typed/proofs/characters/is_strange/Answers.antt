@@ -1,7 +1,6 @@
 use mathlib.Core.Path.{sym, ◌∙◌}
 use borrow.Author.Tests.{eq-eqb, ne_eqb}
 use Rattle.typed.specs.Fields.{is_strange}
-use borrow.Author.Rules.{rules}
 use Rattle.typed.proofs.characters.is_strange.Goals as goal
 
 pub returns-then-is_digit : goal.returns-then-is_digit

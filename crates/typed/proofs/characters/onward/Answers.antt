@@ -1,7 +1,6 @@
 use borrow.Author.Tests.{lt-ltb, le-ltb}
 use Rattle.basis.specs.Tests.{pick}
 use Rattle.typed.specs.Fields.{onward}
-use borrow.Author.Rules.{rules}
 use Rattle.typed.proofs.characters.onward.Goals as goal
 
 pub returns-then-at-lt1000000000000000000 : goal.returns-then-at-lt1000000000000000000

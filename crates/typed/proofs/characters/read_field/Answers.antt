@@ -1,10 +1,6 @@
 -- What is still to be read ends as the whole does.
-use Prim.Native.Nat.{◌-◌}
-use mathlib.Core.Path.{◌≡◌, refl, sym, ◌∙◌}
-use lib.ListN.{length, drop}
-use Rattle.typed.specs.Fields.{read_on}
+use mathlib.Core.Path.{refl, sym, ◌∙◌}
 use Rattle.typed.proofs.FieldLaws.{read_more, read_stop, read_end}
-use borrow.Author.Rules.{rules}
 use Rattle.typed.proofs.characters.read_field.Goals as goal
 
 pub loop-k-init : goal.loop-k-init

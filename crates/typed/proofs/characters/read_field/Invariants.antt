@@ -1,10 +1,8 @@
 -- What is still to be read ends as the whole does.
 use Prim.Native.Nat.{◌-◌}
-use mathlib.Core.Path.{◌≡◌, refl, sym, ◌∙◌}
+use mathlib.Core.Path.{◌≡◌}
 use lib.ListN.{length, drop}
 use Rattle.typed.specs.Fields.{read_on}
-use Rattle.typed.proofs.FieldLaws.{read_more, read_stop, read_end}
-use borrow.Author.Rules.{rules}
 use Rattle.typed.proofs.characters.read_field.Given as goal
 
 abbrev pub invariant-loop-k : goal.invariant-loop-k

@@ -1,7 +1,6 @@
 use mathlib.Core.Path.{sym, ◌∙◌}
 use Rattle.typed.specs.Fields.{settled}
 use Rattle.typed.proofs.FieldLaws.{pick_first, pick_second}
-use borrow.Author.Rules.{rules}
 use Rattle.typed.proofs.characters.settle.Goals as goal
 
 pub returns-then-f : goal.returns-then-f

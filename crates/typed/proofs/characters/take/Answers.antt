@@ -1,7 +1,6 @@
 use borrow.Author.Tests.{eq-eqb, ne_eqb}
 use Rattle.basis.specs.Tests.{pick}
 use Rattle.typed.specs.Fields.{taken}
-use borrow.Author.Rules.{rules}
 use Rattle.typed.proofs.characters.take.Goals as goal
 
 pub returns-then-f-eq0 : goal.returns-then-f-eq0

@@ -1,7 +1,6 @@
 use mathlib.Core.Path.{refl}
 use native.Mathlib.Omega.{arith}
 use Rattle.typed.proofs.FieldLaws.{digit_low, digit_small}
-use borrow.Author.Rules.{rules}
 use Rattle.typed.proofs.characters.worth.Goals as goal
 
 pub overflow_sub-result : goal.overflow_sub-result

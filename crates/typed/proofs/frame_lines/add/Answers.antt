@@ -1,5 +1,4 @@
 use Rattle.typed.specs.FrameLines.{added}
-use borrow.Author.Rules.{rules}
 use Rattle.typed.proofs.frame_lines.add.Goals as goal
 
 pub returns : goal.returns

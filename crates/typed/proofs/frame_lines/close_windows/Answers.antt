@@ -2,7 +2,6 @@ use mathlib.Core.Path.{sym, ◌∙◌, ap}
 use borrow.Author.Tests.{eq-eqb, ne_eqb}
 use Rattle.typed.specs.FrameLines.{window_taken, windows_closed}
 use Rattle.typed.proofs.FieldLaws.{pick_first, pick_second}
-use borrow.Author.Rules.{rules}
 use Rattle.typed.proofs.frame_lines.close_windows.Goals as goal
 
 pub returns-then-w : goal.returns-then-w

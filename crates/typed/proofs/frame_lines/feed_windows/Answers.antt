@@ -1,7 +1,6 @@
 use mathlib.Core.Path.{sym, ◌∙◌, ap}
 use Rattle.typed.specs.FrameLines.{window_character, windows_fed}
 use Rattle.typed.proofs.FieldLaws.{pick_first, pick_second}
-use borrow.Author.Rules.{rules}
 use Rattle.typed.proofs.frame_lines.feed_windows.Goals as goal
 
 pub returns-then-w : goal.returns-then-w

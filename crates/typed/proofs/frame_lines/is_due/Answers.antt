@@ -1,7 +1,5 @@
 use mathlib.Core.Path.{sym, ◌∙◌}
-use borrow.Author.Tests.{not-true, not-false}
 use Rattle.typed.specs.FrameLines.{as_due}
-use borrow.Author.Rules.{rules}
 use Rattle.typed.proofs.frame_lines.is_due.Goals as goal
 
 pub returns-then-not-is_plain : goal.returns-then-not-is_plain

@@ -1,4 +1,3 @@
-use borrow.Author.Rules.{rules}
 use Rattle.typed.proofs.frame_lines.new_windows.Goals as goal
 
 pub returns : goal.returns

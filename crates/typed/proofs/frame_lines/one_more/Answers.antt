@@ -1,7 +1,6 @@
 use borrow.Author.Tests.{lt-ltb, le-ltb}
 use Rattle.basis.specs.Tests.{pick}
 use Rattle.typed.specs.FrameLines.{counted_windows}
-use borrow.Author.Rules.{rules}
 use Rattle.typed.proofs.frame_lines.one_more.Goals as goal
 
 pub returns-then-n-lt65 : goal.returns-then-n-lt65

@@ -1,11 +1,7 @@
 -- What is still to be read ends as the whole does.
-use Prim.Native.Nat.{◌-◌, ◌≤◌}
-use mathlib.Core.Path.{◌≡◌, refl, sym, ◌∙◌}
+use mathlib.Core.Path.{refl, sym, ◌∙◌}
 use native.Mathlib.Omega.{arith}
-use lib.ListN.{drop}
-use Rattle.typed.specs.FrameLines.{windows_read}
 use Rattle.typed.proofs.LineLaws.{windows-next, windows_end}
-use borrow.Author.Rules.{rules}
 use Rattle.typed.proofs.frame_lines.read_windows.Goals as goal
 
 pub loop-i-init : goal.loop-i-init

@@ -1,11 +1,8 @@
 -- What is still to be read ends as the whole does.
-use Prim.Native.Nat.{◌-◌, ◌≤◌}
-use mathlib.Core.Path.{◌≡◌, refl, sym, ◌∙◌}
-use native.Mathlib.Omega.{arith}
+use Prim.Native.Nat.{◌≤◌}
+use mathlib.Core.Path.{◌≡◌}
 use lib.ListN.{drop}
 use Rattle.typed.specs.FrameLines.{windows_read}
-use Rattle.typed.proofs.LineLaws.{windows-next, windows_end}
-use borrow.Author.Rules.{rules}
 use Rattle.typed.proofs.frame_lines.read_windows.Given as goal
 
 abbrev pub invariant-loop-i : goal.invariant-loop-i

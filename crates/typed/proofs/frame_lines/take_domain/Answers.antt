@@ -2,7 +2,6 @@ use Prim.Native.Nat.{ℕ}
 use mathlib.Core.Path.{ap}
 use mathlib.Core.Bool.{true}
 use Rattle.typed.specs.FrameLines.{with_domain}
-use borrow.Author.Rules.{rules}
 use Rattle.typed.proofs.frame_lines.take_domain.Goals as goal
 
 pub returns : goal.returns

@@ -1,8 +1,6 @@
 use mathlib.Core.Path.{sym, ◌∙◌}
-use borrow.Author.Tests.{not-true, not-false}
 use Rattle.typed.specs.FrameLines.{window_taken}
 use Rattle.typed.proofs.FieldLaws.{pick_first, pick_second}
-use borrow.Author.Rules.{rules}
 use Rattle.typed.proofs.frame_lines.take_ended.Goals as goal
 
 pub returns-then-not-is_due : goal.returns-then-not-is_due

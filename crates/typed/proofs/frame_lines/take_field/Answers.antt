@@ -2,7 +2,6 @@ use mathlib.Core.Path.{sym, ◌∙◌}
 use borrow.Author.Tests.{eq-eqb, ne_eqb}
 use Rattle.typed.specs.FrameLines.{window_character, with_field}
 use Rattle.typed.proofs.FieldLaws.{pick_first, pick_second}
-use borrow.Author.Rules.{rules}
 use Rattle.typed.proofs.frame_lines.take_field.Goals as goal
 
 pub returns-then-f-ne0 : goal.returns-then-f-ne0

@@ -1,5 +1,4 @@
 use Rattle.typed.specs.FrameLines.{window_of, with_window}
-use borrow.Author.Rules.{rules}
 use Rattle.typed.proofs.frame_lines.take_length.Goals as goal
 
 pub returns : goal.returns

@@ -1,7 +1,6 @@
 use borrow.Author.Tests.{eq-eqb, ne_eqb}
 use Rattle.basis.specs.Tests.{pick}
 use Rattle.typed.specs.Numbers.{command}
-use borrow.Author.Rules.{rules}
 use Rattle.typed.proofs.numbers.command_of.Goals as goal
 
 pub returns-then-f-eq2 : goal.returns-then-f-eq2

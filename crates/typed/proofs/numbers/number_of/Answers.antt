@@ -1,7 +1,6 @@
 use mathlib.Core.Path.{sym, ◌∙◌, ap}
 use Rattle.typed.specs.Numbers.{plain, argument}
 use Rattle.typed.proofs.FieldLaws.{pick_first, pick_second}
-use borrow.Author.Rules.{rules}
 use Rattle.typed.proofs.numbers.number_of.Goals as goal
 
 pub returns-then-is_plain : goal.returns-then-is_plain

@@ -1,6 +1,5 @@
 use mathlib.Core.Path.{◌∙◌, ap}
 use Rattle.typed.specs.Numbers.{signed, signed_word}
-use borrow.Author.Rules.{rules}
 use Rattle.typed.proofs.numbers.signed_of.Goals as goal
 
 pub returns : goal.returns

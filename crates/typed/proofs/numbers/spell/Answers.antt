@@ -1,12 +1,7 @@
 -- What is still to be spelt ends as the whole word does.
-use Prim.Native.Nat.{◌-◌, ◌≤◌}
-use mathlib.Core.Path.{◌≡◌, refl, sym, ◌∙◌}
+use mathlib.Core.Path.{refl, sym, ◌∙◌}
 use native.Mathlib.Omega.{arith}
-use lib.ListN.{drop}
-use Rattle.typed.specs.Fields.{blank}
-use Rattle.typed.specs.Numbers.{spelt}
 use Rattle.typed.proofs.NumberLaws.{spelt-next, spelt_end}
-use borrow.Author.Rules.{rules}
 use Rattle.typed.proofs.numbers.spell.Goals as goal
 
 pub loop-i-init : goal.loop-i-init

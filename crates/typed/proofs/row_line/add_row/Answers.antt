@@ -1,5 +1,4 @@
 use Rattle.typed.specs.RowLine.{row_added}
-use borrow.Author.Rules.{rules}
 use Rattle.typed.proofs.row_line.add_row.Goals as goal
 
 pub returns : goal.returns

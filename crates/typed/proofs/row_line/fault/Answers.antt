@@ -1,8 +1,7 @@
 use mathlib.Core.Path.{sym, ◌∙◌}
-use borrow.Author.Tests.{lt-ltb, le-ltb, eq-eqb, ne_eqb, not-true, not-false}
+use borrow.Author.Tests.{lt-ltb, le-ltb, eq-eqb, ne_eqb}
 use Rattle.basis.specs.Tests.{pick}
 use Rattle.typed.specs.RowLine.{fault}
-use borrow.Author.Rules.{rules}
 use Rattle.typed.proofs.row_line.fault.Goals as goal
 
 pub returns-then-f-eq0 : goal.returns-then-f-eq0

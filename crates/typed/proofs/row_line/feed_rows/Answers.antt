@@ -2,7 +2,6 @@ use mathlib.Core.Path.{sym, ◌∙◌, ap}
 use borrow.Author.Tests.{eq-eqb, ne_eqb}
 use Rattle.typed.specs.RowLine.{row_character, rows_fed}
 use Rattle.typed.proofs.FieldLaws.{pick_first, pick_second}
-use borrow.Author.Rules.{rules}
 use Rattle.typed.proofs.row_line.feed_rows.Goals as goal
 
 pub returns-then-r-ne0 : goal.returns-then-r-ne0

@@ -1,4 +1,3 @@
-use borrow.Author.Rules.{rules}
 use Rattle.typed.proofs.row_line.new_rows.Goals as goal
 
 pub returns : goal.returns

@@ -1,7 +1,6 @@
 use borrow.Author.Tests.{lt-ltb, le-ltb}
 use Rattle.basis.specs.Tests.{pick}
 use Rattle.typed.specs.RowLine.{counted}
-use borrow.Author.Rules.{rules}
 use Rattle.typed.proofs.row_line.one_more.Goals as goal
 
 pub returns-then-n-lt17 : goal.returns-then-n-lt17

@@ -1,11 +1,8 @@
 -- What is still to be read ends as the whole does.
-use Prim.Native.Nat.{◌-◌, ◌≤◌}
-use mathlib.Core.Path.{◌≡◌, refl, sym, ◌∙◌}
-use native.Mathlib.Omega.{arith}
+use Prim.Native.Nat.{◌≤◌}
+use mathlib.Core.Path.{◌≡◌}
 use lib.ListN.{drop}
 use Rattle.typed.specs.RowLine.{rows_read}
-use Rattle.typed.proofs.LineLaws.{rows_next, rows_end}
-use borrow.Author.Rules.{rules}
 use Rattle.typed.proofs.row_line.read_rows.Given as goal
 
 abbrev pub invariant-loop-i : goal.invariant-loop-i

@@ -6,8 +6,7 @@ use Rattle.basis.proofs.ListLaws.{long_of}
 use borrow.Author.Rules.{rules}
 use Rattle.typed.proofs.row_line.store_row.Goals as goal
 
-long : (s : tie.Start) → length s.args.t1 ≡ 16
-long s = search (rules, long_of)
-
 pub returns : goal.returns
-returns c = sym (set_out _ _ _ (omega (arith, long (goal.at.returns c).Start, c.if-n-lt16.false)))
+returns c =
+    let long : length c.args.rows ≡ 16 = search (rules, long_of) in
+    sym (set_out _ _ _ (omega (arith, long, c.if-n-lt16.false)))

@@ -1,7 +1,6 @@
 use borrow.Author.Tests.{eq-eqb, ne_eqb}
 use Rattle.basis.specs.Tests.{pick}
 use Rattle.typed.specs.RowLine.{row_character, with_field}
-use borrow.Author.Rules.{rules}
 use Rattle.typed.proofs.row_line.take_field.Goals as goal
 
 pub returns-then-f-ne0 : goal.returns-then-f-ne0

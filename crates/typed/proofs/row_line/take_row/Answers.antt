@@ -3,7 +3,6 @@ use borrow.Author.Tests.{eq-eqb, ne_eqb}
 use Rattle.basis.specs.Tests.{pick}
 use Rattle.typed.specs.RowLine.{row_taken}
 use Rattle.typed.proofs.LineLaws.{fault-none}
-use borrow.Author.Rules.{rules}
 use Rattle.typed.proofs.row_line.take_row.Goals as goal
 
 pub add_row-requires : goal.add_row-requires
