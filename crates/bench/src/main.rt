@@ -12,21 +12,23 @@ mod play;
 mod turn;
 
 use input::{load, turns_left};
-use output::{say_refused, say_threads};
+use output::{complain, say_refused, say_threads};
+use std::rt::Files;
 use turn::take_turn;
 
 // Turn after turn. One that is open took a byte or was interrupted, and the clock allows 32,000,000,000 bytes.
-fn run(t: Table)
+fn run(rt: &(impl Print + Eprint + Input), t: Table)
     requires { Legal t }
 {
     let mut steps = [0u8; 128000];
-    let mut out = io::large_buffer();
+    let mut out = [0u8; 65536];
+    let mut from = rt.reader();
     let start = fresh(t);
     let mut s = start.state;
     let mut have = 0;
-    let mut turns = turns_left(1000000000000000000, say_threads(&mut out, t.count));
+    let mut turns = turns_left(1000000000000000000, say_threads(rt, &mut out, t.count));
     while 0 < turns {
-        let r = take_turn(t, s, have, &mut steps, &mut out);
+        let r = take_turn(rt, &mut from, t, s, have, &mut steps, &mut out);
         s = r.state;
         have = r.have;
         turns = turns_left(turns, r.open);
@@ -34,31 +36,37 @@ fn run(t: Table)
 }
 
 // The verdict on the table's bytes: one line for a refusal, else the run.
-fn judge(bytes: &[u8]) {
+fn judge(rt: &(impl Print + Eprint + Input), bytes: &[u8]) {
     let r = codec::read(bytes);
     let t = r.table;
     let v = r.verdict;
     match v {
-        Verdict::Accepted => run(t),
-        Verdict::Refused(why, place) => say_refused(why, place as u64),
+        Verdict::Accepted => run(rt, t),
+        Verdict::Refused(why, place) => say_refused(rt, why, place as u64),
         Verdict::Intransitive {
             place,
             a: _,
             b: _,
             c: _,
-        } => say_refused(7, place as u64),
+        } => say_refused(rt, 7, place as u64),
     }
 }
 
 // The first 1,024 bytes of a file have the verdict of the whole: 826 do, by `reading-front` of crate codec, since no more
 // than 275 numbers of three bytes each are read, and then it only matters whether one more byte is there.
-fn main() {
+fn run_table(rt: &(impl Print + Eprint + Input + Files)) {
     let mut bytes = [0u8; 1024];
-    let got = load(&mut bytes);
+    let got = load(rt, &mut bytes);
     if !got.whole {
-        os::fail(b"bench: table.bin");
+        if let Some(error) = got.error {
+            complain(rt, "table.bin", error);
+        }
         return;
     }
     let n = got.count;
-    judge(&bytes[..n]);
+    judge(rt, &bytes[..n]);
+}
+
+fn main(rt: HostRuntime) {
+    run_table(&rt);
 }

@@ -3,24 +3,33 @@ ghost use Rattle.std.specs.Prelude.{◌≡◌};
 ghost use Rattle.report.specs.Printing.{told, printing, printed};
 ghost use Rattle.bench.specs.Text.{last_line};
 
-use libc::STDOUT_FILENO;
 use report::Printing;
+use std::io;
+use std::io::Write;
+
+// Says on standard error what went wrong with what; where that cannot be said, nobody is left to tell.
+pub fn complain(rt: &impl Eprint, what: &str, error: io::Error) {
+    let _ = eprintln!(rt; "bench: {what}: {error}");
+}
 
 // Writes text, or says on standard error why it could not; after that nothing more may be written.
-pub fn say(text: &[u8]) -> bool {
-    if io::write_all(STDOUT_FILENO, text) {
-        return true;
+pub fn say(rt: &(impl Print + Eprint), text: &[u8]) -> bool {
+    let mut to = io::writer(rt);
+    match to.write_all(text) {
+        Ok(_) => true,
+        Err(error) => {
+            complain(rt, "standard output", error);
+            false
+        }
     }
-    os::fail(b"bench: standard output");
-    false
 }
 
 // Writes what stands before the place after a printed line.
-fn say_printed(out: &[u8], p: Printing) -> bool {
+fn say_printed(rt: &(impl Print + Eprint), out: &[u8], p: Printing) -> bool {
     match p {
         Printing::Printed(next) => {
             if next <= out.len() {
-                return say(&out[..next]);
+                return say(rt, &out[..next]);
             }
             false
         }
@@ -28,15 +37,15 @@ fn say_printed(out: &[u8], p: Printing) -> bool {
     }
 }
 
-pub fn say_threads(out: &mut [u8], threads: u8) -> bool {
+pub fn say_threads(rt: &(impl Print + Eprint), out: &mut [u8], threads: u8) -> bool {
     let p = report::print_threads(out, 0, threads);
-    say_printed(out, p)
+    say_printed(rt, out, p)
 }
 
-pub fn say_refused(why: u8, place: u64) {
+pub fn say_refused(rt: &(impl Print + Eprint), why: u8, place: u64) {
     let mut out = [0u8; 64];
     let p = report::print_refused(&mut out, 0, why, place);
-    say_printed(&out, p);
+    say_printed(rt, &out, p);
 }
 
 // The last line: how many steps, or the refusal.
@@ -50,7 +59,7 @@ fn put_last(out: &mut [u8], at: usize, why: u8, clock: u32) -> Printing
 }
 
 // Writes the lines that stand before the place at, and the last line behind them.
-pub fn say_last(out: &mut [u8], at: usize, why: u8, clock: u32) {
+pub fn say_last(rt: &(impl Print + Eprint), out: &mut [u8], at: usize, why: u8, clock: u32) {
     let p = put_last(out, at, why, clock);
-    say_printed(out, p);
+    say_printed(rt, out, p);
 }

@@ -4,11 +4,11 @@ ghost use Rattle.table.specs.Legal.{Legal};
 ghost use Rattle.state.specs.State.{Fits};
 ghost use Rattle.bench.specs.Playing.{Answers, Turned};
 
-use super::output::{say, say_last};
+use super::output::{complain, say, say_last};
 use super::play::play;
 use input::{Filled, read_on};
-use libc::STDIN_FILENO;
 use scheduler::State;
+use std::io::Read;
 use table::Table;
 
 // A run after a turn: its state, how many bytes are there of a step that is not whole, and whether more may come.
@@ -30,25 +30,39 @@ fn carry(steps: &mut [u8], from: usize, n: usize)
 }
 
 // Nothing came: the read was interrupted, the input is at its end, where a rest is a step short of bytes, or it failed.
-fn without_more(t: Table, s: State, got: Filled, steps: &[u8], out: &mut [u8]) -> bool
+fn without_more(
+    rt: &(impl Print + Eprint),
+    t: Table,
+    s: State,
+    got: Filled,
+    steps: &[u8],
+    out: &mut [u8],
+) -> bool
     requires { Legal t × Fits t s × (got.count < t.count) × (t.count ≤ length steps.now) × (length out.old ≡ 65536) }
 {
     if got.open {
         return true;
     }
-    if !got.whole {
-        os::fail(b"bench: standard input");
+    if let Some(error) = got.error {
+        complain(rt, "standard input", error);
         return false;
     }
     let n = got.count;
     let p = play(t, s, &steps[..n], out);
     let next = p.state;
-    say_last(out, p.next, p.why, next.clock);
+    say_last(rt, out, p.next, p.why, next.clock);
     false
 }
 
 // Plays the whole steps among the first n bytes and prints their lines; the rest goes to the front.
-fn answer_whole(t: Table, s: State, n: usize, steps: &mut [u8], out: &mut [u8]) -> Turn
+fn answer_whole(
+    rt: &(impl Print + Eprint),
+    t: Table,
+    s: State,
+    n: usize,
+    steps: &mut [u8],
+    out: &mut [u8],
+) -> Turn
     requires { Legal t × Fits t s × (n ≤ 4000 * t.count) × (n ≤ length steps.old) × (length out.old ≡ 65536) }
     ensures { Fits t result.state × (result.have < t.count) × Answers t s n steps.old result steps.new }
 {
@@ -59,32 +73,40 @@ fn answer_whole(t: Table, s: State, n: usize, steps: &mut [u8], out: &mut [u8]) 
     let at = p.next;
     carry(steps, end, have);
     if p.why != 0 {
-        say_last(out, at, p.why, state.clock);
+        say_last(rt, out, at, p.why, state.clock);
         return Turn {
             state,
             have,
             open: false,
         };
     }
-    let open = say(&out[..at]);
+    let open = say(rt, &out[..at]);
     Turn { state, have, open }
 }
 
 // Reads what has arrived, up to 4,000 steps, and answers every whole step of it.
-pub fn take_turn(t: Table, s: State, have: usize, steps: &mut [u8], out: &mut [u8]) -> Turn
+pub fn take_turn<F: Read>(
+    rt: &(impl Print + Eprint),
+    from: &mut F,
+    t: Table,
+    s: State,
+    have: usize,
+    steps: &mut [u8],
+    out: &mut [u8],
+) -> Turn
     requires { Legal t × Fits t s × (have < t.count) × (length steps.old ≡ 128000) × (length out.old ≡ 65536) }
     ensures { Fits t result.state × (result.have < t.count) × Turned t s have steps.old result steps.new }
 {
     let most = 4000 * (t.count as usize);
-    let got = read_on(STDIN_FILENO, &mut steps[..most], have);
+    let got = read_on(from, &mut steps[..most], have);
     let n = got.count;
     if n == have {
-        let open = without_more(t, s, got, steps, out);
+        let open = without_more(rt, t, s, got, steps, out);
         return Turn {
             state: s,
             have,
             open,
         };
     }
-    answer_whole(t, s, n, steps, out)
+    answer_whole(rt, t, s, n, steps, out)
 }

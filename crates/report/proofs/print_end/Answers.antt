@@ -1,6 +1,5 @@
 -- The line of the word `end` and a number.
 use Rattle.report.specs.Lines.{end_line}
-use borrow.Author.Rules.{rules}
 use Rattle.report.proofs.print_end.Goals as goal
 
 pub returns : goal.returns

@@ -1,6 +1,5 @@
 -- The line of the word `threads` and a number.
 use Rattle.report.specs.Lines.{threads_line}
-use borrow.Author.Rules.{rules}
 use Rattle.report.proofs.print_threads.Goals as goal
 
 pub returns : goal.returns

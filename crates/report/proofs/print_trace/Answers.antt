@@ -1,14 +1,9 @@
 -- The lines of the first k bytes are put: each turn puts one more.
-use Prim.Native.Nat.{◌+◌, ◌-◌, ◌*◌, ◌≤◌}
-use mathlib.Core.Path.{◌≡◌}
 use native.Mathlib.Omega.{arith}
-use lib.ListN.{take}
 use lib.Seq.{take_all}
-use Rattle.writer.specs.Buffer.{Put}
 use Rattle.writer.proofs.WriterLaws.{put-none, put_join, put-length}
 use Rattle.report.specs.Lines.{trace_lines}
 use Rattle.report.proofs.LineLaws.{trace_lines-next}
-use borrow.Author.Rules.{rules}
 use Rattle.report.proofs.print_trace.Goals as goal
 
 pub loop-k-init : goal.loop-k-init
@@ -24,20 +19,18 @@ overflow_add-c c =
     omega (arith, c.loop-k.invariant.1, c.requires.1, c.loop-k-test.true)
 
 pub loop-k-preserved : goal.loop-k-preserved
-loop-k-preserved c =
-    (
-      omega (arith, c.loop-k-test.true),
-      omega (arith, c.loop-k.invariant.1),
-      omega (arith, c.put_line-next.ensures.0, c.loop-k.invariant.2),
-      rw (trace_lines-next c.args.clock c.args.trace.now c.loop-k.k c.loop-k-test.true, ← c.loop-k.invariant.1) (put_join c.loop-k.invariant.3 c.put_line-next.ensures.1),
-    )
+loop-k-preserved c = (
+  omega (arith, c.loop-k-test.true),
+  omega (arith, c.loop-k.invariant.1),
+  omega (arith, c.put_line-next.ensures.0, c.loop-k.invariant.2),
+  rw (trace_lines-next c.args.clock c.args.trace.now c.loop-k.k c.loop-k-test.true, ← c.loop-k.invariant.1) (put_join c.loop-k.invariant.3 c.put_line-next.ensures.1),
+)
 
 pub shape_of-buf : goal.shape_of-buf
 shape_of-buf c = put-length c.loop-k.invariant.3
 
 pub returns : goal.returns
-returns c =
-    (
-      omega (arith, c.loop-k.invariant.0, c.loop-k.invariant.2),
-      rw (take_all c.loop-k.k c.args.trace.now c.loop-k-test.false) at c.loop-k.invariant.3,
-    )
+returns c = (
+  omega (arith, c.loop-k.invariant.0, c.loop-k.invariant.2),
+  rw (take_all c.loop-k.k c.args.trace.now c.loop-k-test.false) at c.loop-k.invariant.3,
+)

@@ -1,14 +1,9 @@
 -- The lines of the first k bytes are put: each turn puts one more.
-use Prim.Native.Nat.{◌+◌, ◌-◌, ◌*◌, ◌≤◌}
+use Prim.Native.Nat.{◌+◌, ◌*◌, ◌≤◌}
 use mathlib.Core.Path.{◌≡◌}
-use native.Mathlib.Omega.{arith}
 use lib.ListN.{take}
-use lib.Seq.{take_all}
 use Rattle.writer.specs.Buffer.{Put}
-use Rattle.writer.proofs.WriterLaws.{put-none, put_join, put-length}
 use Rattle.report.specs.Lines.{trace_lines}
-use Rattle.report.proofs.LineLaws.{trace_lines-next}
-use borrow.Author.Rules.{rules}
 use Rattle.report.proofs.print_trace.Given as goal
 
 abbrev pub invariant-loop-k : goal.invariant-loop-k

@@ -2,7 +2,6 @@
 use borrow.Author.Tests.{eq-eqb, ne_eqb}
 use Rattle.basis.specs.Tests.{pick}
 use Rattle.bench.specs.Text.{last_line}
-use borrow.Author.Rules.{rules}
 use Rattle.bench.proofs.output.put_last.Goals as goal
 
 pub returns-then-why-eq0 : goal.returns-then-why-eq0

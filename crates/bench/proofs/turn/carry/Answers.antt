@@ -1,10 +1,9 @@
 -- The first i bytes are moved, and those from i on are as they were.
-use Prim.Native.Nat.{◌+◌, ◌-◌, ◌≤◌, ◌<◌}
+use Prim.Native.Nat.{◌+◌, ◌<◌}
 use mathlib.Core.Path.{◌≡◌, refl, ◌∙◌}
 use native.Mathlib.Omega.{arith}
-use lib.ListN.{length, take, drop, length-set}
+use lib.ListN.{length, length-set}
 use Rattle.bench.proofs.CarryLaws.{carried, carried_rest}
-use borrow.Author.Rules.{rules}
 use Rattle.bench.proofs.turn.carry.Goals as goal
 
 pub loop-i-init : goal.loop-i-init

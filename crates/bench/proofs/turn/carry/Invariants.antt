@@ -1,10 +1,7 @@
 -- The first i bytes are moved, and those from i on are as they were.
-use Prim.Native.Nat.{◌+◌, ◌-◌, ◌≤◌, ◌<◌}
-use mathlib.Core.Path.{◌≡◌, refl, ◌∙◌}
-use native.Mathlib.Omega.{arith}
-use lib.ListN.{length, take, drop, length-set}
-use Rattle.bench.proofs.CarryLaws.{carried, carried_rest}
-use borrow.Author.Rules.{rules}
+use Prim.Native.Nat.{◌≤◌}
+use mathlib.Core.Path.{◌≡◌}
+use lib.ListN.{length, take, drop}
 use Rattle.bench.proofs.turn.carry.Given as goal
 
 abbrev pub invariant-loop-i : goal.invariant-loop-i

@@ -1,7 +1,6 @@
 -- Where there is room the text is put, and else nothing is.
 use native.Mathlib.Omega.{arith}
 use Rattle.report.proofs.TextLaws.{print_short, print_done}
-use borrow.Author.Rules.{rules}
 use Rattle.report.proofs.text.lay.Goals as goal
 
 pub returns-then-len-at : goal.returns-then-len-at

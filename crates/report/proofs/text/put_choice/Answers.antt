@@ -4,7 +4,6 @@ use borrow.Author.Tests.{lt-ltb, le-ltb, eq-eqb, ne_eqb}
 use Rattle.basis.specs.Tests.{pick}
 use Rattle.writer.proofs.WriterLaws.{put_join}
 use Rattle.report.specs.Lines.{answer}
-use borrow.Author.Rules.{rules}
 use Rattle.report.proofs.text.put_choice.Goals as goal
 
 pub returns-then-b-lt32 : goal.returns-then-b-lt32

@@ -2,7 +2,6 @@
 use native.Mathlib.Omega.{arith}
 use Rattle.writer.proofs.WriterLaws.{put_join, put-length}
 use Rattle.decimal.proofs.DecimalLaws.{decimal-short}
-use borrow.Author.Rules.{rules}
 use Rattle.report.proofs.text.put_named.Goals as goal
 
 pub put_number-requires : goal.put_number-requires
