@@ -1,6 +1,6 @@
 -- Three parties on one bench, ten steps of 1 ms a period: the pitch loop, the actuator model below it, and above both a load monitor
 -- that is private. It runs at clock 0 and then waits; a bench that hands its time down starts the pitch loop at clock 1, ours at 4.
-use Rattle.std.specs.Prelude.{ℕ, ◌-◌, ◌≡◌, refl, List, [], ◌∷◌, ◌++◌, map, true, false, replicate, take}
+use Rattle.std.specs.Prelude.{ℕ, ◌-◌, ◌≡◌, refl, List, [], ◌∷◌, ◌++◌, map, true, replicate, take}
 use Rattle.basis.specs.Told.{Told, answered}
 use Rattle.table.specs.Legal.{legal}
 use Rattle.basis.specs.Search.{nothing, found}
