@@ -2,7 +2,7 @@
 use Prim.Native.Nat.{ℕ, ◌+◌, ◌-◌, ◌≤◌, ◌<◌}
 use mathlib.Core.Path.{◌≡◌, refl, sym, ◌∙◌, ap}
 use mathlib.Core.List.{List, [], ◌∷◌}
-use mathlib.Core.Bool.{true, false, not, true≢false}
+use mathlib.Core.Bool.{true, false, true≢false}
 use mathlib.Core.Logic.{◌≢◌, ⊎_elim}
 use native.Mathlib.Omega.{arith}
 use native.Mathlib.Nat.{lt_trans}
@@ -10,7 +10,7 @@ use borrow.Author.Tests.{ne_eqb, eqb-true, lt-ltb}
 use lib.ListN.{length, get_or, length-set}
 use lib.Seq.{get_or-set_same, get_or-set_other}
 use lib.Dec.{eqb}
-use Rattle.basis.specs.Tests.{pick, and, or}
+use Rattle.basis.specs.Tests.{pick, or}
 use Rattle.basis.proofs.TestLaws.{both_ways, either, by_test, refuted, fails, or-true, or-false}
 use Rattle.table.specs.Threads.{thread}
 use Rattle.table.specs.Legal.{Legal}
@@ -19,7 +19,7 @@ use Rattle.table.specs.declared.Table.{Table}
 use Rattle.table.specs.declared.Mark.{Mark}
 use Rattle.state.specs.State.{no_progress, progress, put, Fits}
 use Rattle.state.specs.Release.{release}
-use Rattle.state.specs.Methods.{paid, pay, done, finish, counted, count, tick}
+use Rattle.state.specs.Methods.{paid, pay, done, finish, count, tick}
 use Rattle.state.specs.declared.Progress.{Progress}
 use Rattle.state.specs.declared.State.{State}
 use Rattle.state.proofs.ReleaseLaws.{release_length}
@@ -96,7 +96,7 @@ module _ (t : Table) (m : List Mark) (bs : List ℕ) where
   walk_named i p (j ∷ js) s f n =
       let P : Walked → Type 0 = λ w. Names i w.answer → (thread t i).priority < p in
       both_ways P _ _ _ (λ v. let e : i ≡ j = visit_names m _ j s i v in rw e f.0)
-      (λ w. omega (arith, walk_named i _ js _ f.1 w, f.0))
+      (λ w. omega (arith, walk_named i (thread t j).priority js _ f.1 w, f.0))
       n
 
   -- .. and threads below it are left as they were.
@@ -108,7 +108,7 @@ module _ (t : Table) (m : List Mark) (bs : List ℕ) where
       let P : Walked → Type 0 = λ w. Names i w.answer → progress w.state k ≡ progress s k in
       both_ways P _ _ _
       (λ v. let e : i ≡ j = visit_names m _ j s i v in visit_others m _ j s k (apart t k j (rw e at l)))
-      (λ w. walk_below i k _ js _ f.1 w l ∙ visit_others m _ j s k (apart t k j (lt_trans l (walk_named i _ js _ f.1 w))))
+      (λ w. walk_below i k (thread t j).priority js _ f.1 w l ∙ visit_others m _ j s k (apart t k j (lt_trans l (walk_named i (thread t j).priority js _ f.1 w))))
       n
 
 -- Threads below the chosen one pay nothing, and their bytes are not heard: they are as the release left them, one tick later.
@@ -144,7 +144,7 @@ module _ (t : Table) (m : List Mark) (bs : List ℕ) where
   stands_lower : (i p : ℕ) (is : List ℕ) → FallingFrom t p is → Stands i is → (thread t i).priority < p
   stands_lower i p [] f h = absurd h
   stands_lower i p (j ∷ js) f h =
-      ⊎_elim (λ (e : i ≡ j). rw e f.0) (λ (q : Stands i js). omega (arith, stands_lower i _ js f.1 q, f.0)) h
+      ⊎_elim (λ (e : i ≡ j). rw e f.0) (λ (q : Stands i js). omega (arith, stands_lower i (thread t j).priority js f.1 q, f.0)) h
 
   walk-idle : (i p : ℕ) (is : List ℕ) (s : State) → FallingFrom t p is → (walk m bs is s).answer ≡ Idle → Stands i is → 0 < (progress s i).rest
       → (is_set m i ≡ false) × (runs (get_or bs i 0) (progress s i) ≡ false)
@@ -157,8 +157,8 @@ module _ (t : Table) (m : List Mark) (bs : List ℕ) where
       (λ c. ⊎_elim
       (λ (q : i ≡ j). rw q (passed_over m _ j s c (rw q at r)))
       (λ (q : Stands i js).
-      let k : progress (visit m (get_or bs j 0) j s).state i ≡ progress s i = visit_others m _ j s i (apart t i j (stands_lower i _ js f.1 q)) in
-      let w = walk-idle i _ js _ f.1 (ap (λ (w : Walked). w.answer) (sym (walk_on m bs j js s c)) ∙ e) q (rw k r) in
+      let k : progress (visit m (get_or bs j 0) j s).state i ≡ progress s i = visit_others m _ j s i (apart t i j (stands_lower i (thread t j).priority js f.1 q)) in
+      let w = walk-idle i (thread t j).priority js _ f.1 (ap (λ (w : Walked). w.answer) (sym (walk_on m bs j js s c)) ∙ e) q (rw k r) in
       rw k at w)
       h)
 
@@ -227,7 +227,7 @@ module _ (t : Table) (m : List Mark) (bs : List ℕ) where
       (λ (q : i ≡ j). rw q (passed_over m _ j s c (rw q at r)))
       (λ (q : Stands i js).
       let o : progress (visit m (get_or bs j 0) j s).state i ≡ progress s i = visit_others m _ j s i (apart t i j (stands_lower t m bs i _ js f.1 q)) in
-      let w = walk_first i k _ js _ f.1 (rw (walk_on m bs j js s c) at n) l q (rw o r) in
+      let w = walk_first i k (thread t j).priority js _ f.1 (rw (walk_on m bs j js s c) at n) l q (rw o r) in
       rw o at w)
       h)
 
@@ -283,7 +283,7 @@ module _ (t : Table) (m : List Mark) (bs : List ℕ) where
       let Q : Walked → Type 0 = λ w. progress w.state i ≡ progress s i in
       let d : i ≢ j = λ e. apart t j i (omega (arith, f.0, h)) (sym e) in
       let o : progress (visit m (get_or bs j 0) j s).state i ≡ progress s i = visit_others m _ j s i d in
-      both_ways Q _ _ _ o (walk-apart i _ js _ f.1 (omega (arith, f.0, h)) ∙ o)
+      both_ways Q _ _ _ o (walk-apart i (thread t j).priority js _ f.1 (omega (arith, f.0, h)) ∙ o)
 
   -- A visit that chooses names its thread.
   chosen_named : (b i : ℕ) (s : State) → chosen (visit m b i s).answer ≡ true → Names i (visit m b i s).answer
@@ -326,7 +326,7 @@ module _ (t : Table) (m : List Mark) (bs : List ℕ) where
       rw (q, a) v)
       (λ (q : Stands i js).
       let o : progress (visit m (get_or bs j 0) j s).state i ≡ progress s i = visit_others m _ j s i (apart t i j (stands_lower t m bs i _ js f.1 q)) in
-      let w = walk-leaves Q visited i _ js _ f.1 (rw long l) q (rw o r) (λ k x. n k (rw (walk_on m bs j js s c) x)) in
+      let w = walk-leaves Q visited i (thread t j).priority js _ f.1 (rw long l) q (rw o r) (λ k x. n k (rw (walk_on m bs j js s c) x)) in
       rw o at w)
       h))
 

@@ -3,20 +3,16 @@ use Prim.Native.Nat.{ℕ}
 use mathlib.Core.Path.{◌≡◌, refl, sym, ◌∙◌}
 use mathlib.Core.List.{List, [], ◌∷◌}
 use mathlib.Core.Bool.{Bool, true, false}
-use lib.ListN.{length, get_or}
+use lib.ListN.{get_or}
 use lib.Dec.{eqb}
 use Rattle.basis.specs.Tests.{pick}
 use Rattle.basis.proofs.TestLaws.{both_ways}
-use Rattle.table.specs.Mark.{marks_of}
-use Rattle.table.specs.declared.Table.{Table}
 use Rattle.table.specs.declared.Mark.{Mark}
 use Rattle.state.specs.declared.State.{State}
 use Rattle.walk.specs.declared.Answer.TheVariants.{Idle}
 use Rattle.state.specs.State.{progress}
 use Rattle.order.specs.Order.{All}
-use Rattle.state.specs.Release.{release}
 use Rattle.walk.specs.Walk.{walked, visit, chosen, walk}
-use Rattle.walk.specs.Step.{advance, step}
 use Rattle.walk.specs.Heard.{heard_by, Alike}
 
 -- A thread with a rest of 0 is passed, whatever its byte.

@@ -1,7 +1,6 @@
 use Rattle.frame.specs.Frame.{domain_at}
 use Rattle.frame.proofs.FrameLaws.{falls}
 use native.Mathlib.Omega.{arith}
-use borrow.Author.Rules.{rules}
 use Rattle.frame.proofs.domain_at.Goals as goal
 
 pub bounds-f-k : goal.bounds-f-k

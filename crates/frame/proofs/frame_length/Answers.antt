@@ -1,9 +1,8 @@
-use Rattle.frame.specs.Frame.{before, frame_length}
+use Rattle.frame.specs.Frame.{frame_length}
 use Rattle.frame.proofs.FrameLaws.{before-none, before-next}
 use native.Mathlib.Nat.{le_antisymm}
 use native.Mathlib.Numerals.{add-one}
-use mathlib.Core.Path.{◌≡◌, sym}
-use Prim.Native.Nat.{◌≤◌, ◌*◌, ◌-◌}
+use mathlib.Core.Path.{sym}
 use borrow.Author.Rules.{rules}
 use Rattle.frame.proofs.frame_length.Goals as goal
 

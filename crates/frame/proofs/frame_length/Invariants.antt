@@ -1,10 +1,6 @@
-use Rattle.frame.specs.Frame.{before, frame_length}
-use Rattle.frame.proofs.FrameLaws.{before-none, before-next}
-use native.Mathlib.Nat.{le_antisymm}
-use native.Mathlib.Numerals.{add-one}
-use mathlib.Core.Path.{◌≡◌, sym}
-use Prim.Native.Nat.{◌≤◌, ◌*◌, ◌-◌}
-use borrow.Author.Rules.{rules}
+use Rattle.frame.specs.Frame.{before}
+use mathlib.Core.Path.{◌≡◌}
+use Prim.Native.Nat.{◌≤◌, ◌*◌}
 use Rattle.frame.proofs.frame_length.Given as goal
 
 abbrev pub invariant-loop-k : goal.invariant-loop-k

@@ -1,11 +1,9 @@
 use Rattle.frame.specs.Frame.{window_counts, frame_ok}
 use Rattle.table.specs.Ranges.{within}
 use Rattle.table.proofs.RangeLaws.{within_high}
-use borrow.Author.Tests.{not-true, not-false}
 use mathlib.Core.Bool.{true, false}
 use mathlib.Core.Path.{◌≡◌, sym, ◌∙◌}
 use native.Mathlib.Omega.{arith}
-use borrow.Author.Rules.{rules}
 use Rattle.frame.proofs.frame_passes.Goals as goal
 use Rattle.frame.proofs.frame_passes.Goals.{Else-not-in_range, Then-not-in_range}
 

@@ -1,7 +1,6 @@
 use Rattle.frame.specs.Frame.{window_at}
 use Rattle.frame.proofs.FrameLaws.{frame_takes}
 use native.Mathlib.Omega.{arith}
-use borrow.Author.Rules.{rules}
 use Rattle.frame.proofs.window_at.Goals as goal
 
 pub nonzero_rem-clock : goal.nonzero_rem-clock

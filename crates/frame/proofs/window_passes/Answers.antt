@@ -1,7 +1,6 @@
 use Rattle.frame.specs.Frame.{window_ok}
 use borrow.Author.Tests.{lt-ltb, le-ltb}
 use native.Mathlib.Omega.{arith}
-use borrow.Author.Rules.{rules}
 use Rattle.frame.proofs.window_passes.Goals as goal
 
 pub returns-then-domains-w : goal.returns-then-domains-w

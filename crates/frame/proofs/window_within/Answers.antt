@@ -1,18 +1,17 @@
 -- `frame::window_within` meets its contract: the sum is the end of the windows passed, and none of them ends behind the place.
-use Rattle.frame.specs.Frame.{window, before, ends_behind, number, window_within}
+use Rattle.frame.specs.Frame.{window, before, number, window_within}
 use Rattle.frame.proofs.FrameLaws.{before-none, before-next, behind, not_behind}
-use Rattle.basis.specs.Search.{nothing, first}
 use Rattle.basis.proofs.SearchLaws.{first-none, first_next, first_hit, first_end}
 use native.Mathlib.Numerals.{add-one}
 use mathlib.Core.Path.{◌≡◌, sym, ap}
-use Prim.Native.Nat.{suc, ◌≤◌, ◌*◌, ◌+◌, ◌-◌}
+use Prim.Native.Nat.{suc, ◌+◌}
 use borrow.Author.Rules.{rules}
 use Rattle.frame.proofs.window_within.Goals as goal
 use Rattle.frame.proofs.window_within.Goals.{After-struct_known-1}
 
 -- After the sum the end of window k is at hand.
 next : (c : After-struct_known-1)
-    → 
+    →
     c.loop-k.end + (window c.args.f c.loop-k.k).length ≡ before c.args.f (suc c.loop-k.k)
 next c = before-next _ c.loop-k.k c.loop-k.invariant.2
 

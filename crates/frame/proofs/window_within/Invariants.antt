@@ -1,12 +1,8 @@
 -- `frame::window_within` meets its contract: the sum is the end of the windows passed, and none of them ends behind the place.
-use Rattle.frame.specs.Frame.{window, before, ends_behind, number, window_within}
-use Rattle.frame.proofs.FrameLaws.{before-none, before-next, behind, not_behind}
+use Rattle.frame.specs.Frame.{before, ends_behind}
 use Rattle.basis.specs.Search.{nothing, first}
-use Rattle.basis.proofs.SearchLaws.{first-none, first_next, first_hit, first_end}
-use native.Mathlib.Numerals.{add-one}
-use mathlib.Core.Path.{◌≡◌, sym, ap}
-use Prim.Native.Nat.{suc, ◌≤◌, ◌*◌, ◌+◌, ◌-◌}
-use borrow.Author.Rules.{rules}
+use mathlib.Core.Path.{◌≡◌}
+use Prim.Native.Nat.{◌≤◌, ◌*◌}
 use Rattle.frame.proofs.window_within.Given as goal
 
 abbrev pub invariant-loop-k : goal.invariant-loop-k

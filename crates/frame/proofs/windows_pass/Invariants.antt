@@ -1,11 +1,8 @@
 use Rattle.frame.specs.Frame.{window, window_ok}
-use Rattle.basis.proofs.TestLaws.{every-none, every-next, every_fails, every_end}
 use Rattle.basis.specs.Tests.{every}
-use borrow.Author.Tests.{not-true, not-false}
 use mathlib.Core.Bool.{true}
-use mathlib.Core.Path.{◌≡◌, sym, ◌∙◌}
-use Prim.Native.Nat.{◌≤◌, ◌-◌}
-use borrow.Author.Rules.{rules}
+use mathlib.Core.Path.{◌≡◌}
+use Prim.Native.Nat.{◌≤◌}
 use Rattle.frame.proofs.windows_pass.Given as goal
 
 abbrev pub invariant-loop-k : goal.invariant-loop-k

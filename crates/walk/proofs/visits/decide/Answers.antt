@@ -7,7 +7,6 @@ use mathlib.Core.Path.{◌≡◌, refl, sym, ◌∙◌}
 use Rattle.state.specs.State.{progress}
 use Rattle.walk.proofs.ReachedLaws.{runs_exactly}
 use native.Mathlib.Omega.{arith}
-use borrow.Author.Rules.{rules}
 use Rattle.walk.proofs.visits.decide.Goals as goal
 
 pub count-ran-requires : goal.count-ran-requires

@@ -1,6 +1,5 @@
 use Rattle.walk.specs.Walk.{runs}
 use borrow.Author.Tests.{eq-eqb, ne_eqb}
-use borrow.Author.Rules.{rules}
 use Rattle.walk.proofs.visits.runs.Goals as goal
 
 pub returns-then-b-ne1 : goal.returns-then-b-ne1

@@ -1,18 +1,11 @@
 -- `scheduler::walk::walk` meets its contract: the walk over the ranks that are left, from the state at hand, is the whole walk.
-use native.Mathlib.Omega.{arith}
-use native.Mathlib.Nat.{le_antisymm}
-use mathlib.Core.List.{List, [], ◌∷◌}
-use mathlib.Core.Bool.{true, false}
-use mathlib.Core.Path.{◌≡◌, refl, sym, ◌∙◌, ap}
-use Prim.Native.Nat.{ℕ, ◌≤◌, ◌<◌, ◌-◌, ◌+◌}
-use lib.ListN.{length, get_or}
+use mathlib.Core.Path.{◌≡◌}
+use Prim.Native.Nat.{◌≤◌, ◌-◌}
+use lib.ListN.{length}
 use lib.Seq.{slice}
-use Rattle.walk.specs.Walk.{walk, visit, chosen}
-use Rattle.walk.specs.declared.Walked.{Walked}
+use Rattle.walk.specs.Walk.{walk}
 use Rattle.state.specs.Given.{Counted}
 use Rattle.order.specs.Order.{Below}
-use Rattle.walk.proofs.WalkLaws.{passed-each, kept_counts, walk_on, walk-stop, walk_none, slice_next}
-use borrow.Author.Rules.{rules}
 use Rattle.walk.proofs.visits.walk.Given as goal
 
 abbrev pub invariant-loop-k : goal.invariant-loop-k
