@@ -6,7 +6,6 @@ use mathlib.Core.List.{List, [], ◌∷◌, ◌++◌, map-append}
 use mathlib.Core.Bool.{false}
 use lib.ListN.{length, take, drop, length-map}
 use borrow.Author.Tests.{le-ltb}
-use Rattle.basis.specs.Tests.{and}
 use Rattle.basis.specs.Told.{Told}
 use Rattle.table.specs.declared.Table.{Table}
 use Rattle.walk.specs.declared.Answer.{Answer}

@@ -1,6 +1,5 @@
 -- The frame's test, or none.
 use Rattle.frame.specs.Mode.{mode_ok}
-use borrow.Author.Rules.{rules}
 use Rattle.runs.proofs.judge.mode_passes.Goals as goal
 
 pub returns-then-framed : goal.returns-then-framed

@@ -1,7 +1,6 @@
 -- None without threads; else as many as there are masks and bytes for.
 use Rattle.runs.specs.Playing.{steps_in}
 use Rattle.runs.proofs.StepsLaws.{steps-none}
-use borrow.Author.Rules.{rules}
 use Rattle.runs.proofs.judge.whole_steps.Goals as goal
 
 pub returns-then-count-eq0 : goal.returns-then-count-eq0

@@ -1,5 +1,4 @@
 -- The block in the frame, or the one without.
-use borrow.Author.Rules.{rules}
 use Rattle.runs.proofs.play.run_block.Goals as goal
 
 pub returns-then-framed : goal.returns-then-framed

@@ -1,13 +1,7 @@
 -- The first k masks pass, and so does every mask of the bits that are kept.
-use Prim.Native.Nat.{◌-◌, ◌≤◌}
-use mathlib.Core.Path.{◌≡◌, sym, ◌∙◌}
-use mathlib.Core.Bool.{true}
+use mathlib.Core.Path.{sym, ◌∙◌}
 use native.Mathlib.Omega.{arith}
-use borrow.Author.Tests.{not-true, not-false}
-use lib.ListN.{get_or}
-use Rattle.basis.specs.Tests.{every}
 use Rattle.basis.proofs.TestLaws.{every-none, every-next, every_end}
-use Rattle.scheduler.specs.Taken.{mask_ok}
 use Rattle.runs.proofs.MaskLaws.{empty-passes, within-known, both_known}
 use borrow.Author.Rules.{rules}
 use Rattle.runs.proofs.stop.passing.Goals as goal

@@ -1,8 +1,6 @@
 -- By the two tests.
 use mathlib.Core.Path.{sym, ◌∙◌}
-use borrow.Author.Tests.{not-true, not-false}
 use Rattle.runs.proofs.StopLaws.{refuses_18, refuses_none, refuses_14}
-use borrow.Author.Rules.{rules}
 use Rattle.runs.proofs.stop.refusal.Goals as goal
 
 pub returns-then-not-mask_passes : goal.returns-then-not-mask_passes

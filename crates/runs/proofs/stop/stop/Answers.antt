@@ -10,13 +10,11 @@ use borrow.Author.Rules.{rules}
 use Rattle.runs.proofs.stop.stop.Goals as goal
 
 -- There is a mask for each whole step.
-few : (w : tie.After-whole-steps) → w.whole_steps.result ≤ length w.before.before.args.masks.now
-few w =
-    let s = w.before.before in
-    steps_masks s.args.t.count (length s.args.masks.now) s.args.bytes w.whole_steps.result (omega (arith, w.whole_steps.ensures))
-
 pub passing-n-requires : goal.passing-n-requires
-passing-n-requires c = search (rules, few (goal.at.passing-n-requires c).After-whole_steps-whole)
+passing-n-requires c =
+    let few : c.whole_steps-whole.result ≤ length c.args.masks.now
+    = steps_masks c.args.t.count (length c.args.masks.now) c.args.bytes c.whole_steps-whole.result (omega (arith, c.whole_steps-whole.ensures)) in
+    omega arith
 
 pub returns-then-n-whole : goal.returns-then-n-whole
 returns-then-n-whole c =
@@ -24,10 +22,16 @@ returns-then-n-whole c =
     (stops_whole c.args.t c.args.clock c.args.masks.now c.whole_steps-whole.result c.cut.result _ c.cut.ensures.0 c.cut.ensures.1 c.cut.ensures.2 c.passing-n.ensures.0 c.passing-n.ensures.1 c.passing-n.ensures.2 c.if-n-whole.true)
 
 pub offset_bounds-masks-n : goal.offset_bounds-masks-n
-offset_bounds-masks-n c = search (rules, few (goal.at.offset_bounds-masks-n c).After-whole_steps-whole)
+offset_bounds-masks-n c =
+    let few : c.whole_steps-whole.result ≤ length c.args.masks.now
+    = steps_masks c.args.t.count (length c.args.masks.now) c.args.bytes c.whole_steps-whole.result (omega (arith, c.whole_steps-whole.ensures)) in
+    search (rules, few)
 
 pub bounds-masks-n : goal.bounds-masks-n
-bounds-masks-n c = search (rules, few (goal.at.bounds-masks-n c).After-whole_steps-whole)
+bounds-masks-n c =
+    let few : c.whole_steps-whole.result ≤ length c.args.masks.now
+    = steps_masks c.args.t.count (length c.args.masks.now) c.args.bytes c.whole_steps-whole.result (omega (arith, c.whole_steps-whole.ensures)) in
+    search (rules, few)
 
 pub returns : goal.returns
 returns c =
