@@ -22,6 +22,7 @@ pub fn new_text() -> Field
 }
 
 // The place behind another.
+#[tactic(auto, unfolding(crate::specs::Fields::onward, basis::specs::Tests::pick))]
 fn onward(at: u64) -> u64
     ensures { result ≡ the-next at }
 {
@@ -31,6 +32,7 @@ fn onward(at: u64) -> u64
     at
 }
 
+#[tactic(auto, unfolding(crate::specs::Fields::is_digit))]
 fn is_digit(b: u8) -> bool
     ensures { result ≡ a-digit b }
 {
@@ -49,6 +51,7 @@ fn worth(b: u8) -> u64
 }
 
 // The value of the digits, one character further.
+#[tactic(auto, unfolding(crate::specs::Fields::grown, basis::specs::Tests::pick))]
 fn grown(v: u64, b: u8) -> u64
     ensures { result ≡ the-grown v b }
 {
@@ -62,6 +65,7 @@ fn grown(v: u64, b: u8) -> u64
 }
 
 // Whether a character is no part of a number, with so many before it.
+#[tactic(auto, unfolding(crate::specs::Fields::is_strange))]
 fn is_strange(size: u8, b: u8) -> bool
     ensures { result ≡ a-strange size b }
 {
@@ -85,6 +89,7 @@ fn is_spoilt(f: Field, b: u8) -> bool
 }
 
 // The field that the next character is of.
+#[tactic(auto, unfolding(crate::specs::Fields::begun, basis::specs::Tests::pick))]
 fn begin(f: Field) -> Field
     ensures { result ≡ begun f }
 {
@@ -103,6 +108,7 @@ fn begin(f: Field) -> Field
     }
 }
 
+#[tactic(auto, unfolding(crate::specs::Fields::moved))]
 fn move_on(mut f: Field) -> Field
     ensures { result ≡ moved f }
 {
@@ -111,6 +117,7 @@ fn move_on(mut f: Field) -> Field
 }
 
 // One character more of the field.
+#[tactic(auto, unfolding(crate::specs::Fields::taken, basis::specs::Tests::pick))]
 pub fn take(mut f: Field, b: u8) -> Field
     ensures { result ≡ taken f b }
 {
@@ -138,6 +145,7 @@ fn settle(f: Field) -> Field
     f
 }
 
+#[tactic(auto, unfolding(crate::specs::Fields::held))]
 fn hold(mut f: Field) -> Field
     ensures { result ≡ held f }
 {
@@ -145,6 +153,7 @@ fn hold(mut f: Field) -> Field
     f
 }
 
+#[tactic(auto, unfolding(crate::specs::Fields::ended_by))]
 fn end(mut f: Field, by: u8) -> Field
     ensures { result ≡ ended_by by f }
 {
@@ -172,6 +181,7 @@ pub fn feed(f: Field, b: u8) -> Field
 }
 
 // The end of the text.
+#[tactic(auto, unfolding(crate::specs::Fields::closed, basis::specs::Tests::pick))]
 pub fn close(f: Field) -> Field
     ensures { result ≡ closed f }
 {

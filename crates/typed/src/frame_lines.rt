@@ -30,6 +30,7 @@ pub fn new_windows() -> Windows
 }
 
 // What must end the next field: a comma behind a domain, the line's end behind a length.
+#[tactic(auto, unfolding(crate::specs::FrameLines::due, basis::specs::Tests::pick))]
 fn due(second: bool) -> u8
     ensures { result ≡ the-due second }
 {
@@ -40,6 +41,7 @@ fn due(second: bool) -> u8
 }
 
 // Whether an ended field is a number and ended as is due.
+#[tactic(auto, unfolding(crate::specs::FrameLines::as_due))]
 fn is_due(w: Windows, f: Field) -> bool
     ensures { result ≡ as_due w f }
 {
@@ -49,6 +51,7 @@ fn is_due(w: Windows, f: Field) -> bool
     f.ended == due(w.second)
 }
 
+#[tactic(auto, unfolding(crate::specs::FrameLines::counted_windows, basis::specs::Tests::pick))]
 fn one_more(n: u8) -> u8
     ensures { result ≡ counted_windows n }
 {
@@ -69,6 +72,7 @@ fn store(mut windows: [Window; 64], n: u8, w: Window) -> [Window; 64]
     windows
 }
 
+#[tactic(auto, unfolding(crate::specs::FrameLines::added))]
 fn add(f: Frame, w: Window) -> Frame
     ensures { result ≡ added f w }
 {
@@ -79,6 +83,7 @@ fn add(f: Frame, w: Window) -> Frame
     }
 }
 
+#[tactic(auto, unfolding(crate::specs::FrameLines::with_domain))]
 fn take_domain(w: Windows, f: Field) -> Windows
     ensures { result ≡ with_domain w f }
 {
@@ -92,6 +97,7 @@ fn take_domain(w: Windows, f: Field) -> Windows
     }
 }
 
+#[tactic(auto, unfolding(crate::specs::FrameLines::with_window, crate::specs::FrameLines::window_of))]
 fn take_length(w: Windows, f: Field) -> Windows
     ensures { result ≡ with_window w f }
 {
@@ -109,6 +115,7 @@ fn take_length(w: Windows, f: Field) -> Windows
     }
 }
 
+#[tactic(auto, unfolding(crate::specs::FrameLines::spoilt))]
 fn spoil(mut w: Windows) -> Windows
     ensures { result ≡ spoilt w }
 {

@@ -7,6 +7,7 @@ use super::characters::take;
 use super::{Argument, Field, Signed};
 
 // Whether a field is digits only.
+#[tactic(auto, unfolding(crate::specs::Numbers::is_plain))]
 pub fn is_plain(f: Field) -> bool
     ensures { result ≡ a-plain f }
 {
@@ -20,6 +21,7 @@ pub fn is_plain(f: Field) -> bool
 }
 
 // Whether it is digits with or without a minus sign.
+#[tactic(auto, unfolding(crate::specs::Numbers::is_signed, basis::specs::Tests::pick))]
 fn is_signed(f: Field) -> bool
     ensures { result ≡ a_signed f }
 {
@@ -52,6 +54,7 @@ fn valued(f: Field) -> i32
     v
 }
 
+#[tactic(auto, unfolding(crate::specs::Numbers::signed, basis::specs::Tests::pick))]
 fn sign(f: Field) -> Signed
     ensures { result ≡ signed f }
 {
@@ -69,6 +72,7 @@ fn sign(f: Field) -> Signed
 }
 
 // The number of a line that is one field.
+#[tactic(auto, unfolding(crate::specs::Numbers::command, basis::specs::Tests::pick))]
 pub fn command_of(f: Field) -> Signed
     ensures { result ≡ command f }
 {
@@ -113,6 +117,7 @@ pub fn number_of(word: &[u8]) -> Argument
 }
 
 // A word as a number with or without a sign.
+#[tactic(auto, unfolding(crate::specs::Numbers::signed_word))]
 pub fn signed_of(word: &[u8]) -> Signed
     ensures { result ≡ signed_word word.now }
 {

@@ -23,6 +23,7 @@ pub fn new_rows() -> Rows
 }
 
 // Whether a zero stands before another character.
+#[tactic(auto, unfolding(crate::specs::RowLine::padded))]
 fn is_padded(f: Field) -> bool
     ensures { result ≡ padded f }
 {
@@ -33,6 +34,7 @@ fn is_padded(f: Field) -> bool
 }
 
 // Why an ended field is refused (0: it is not).
+#[tactic(auto, unfolding(crate::specs::RowLine::fault, basis::specs::Tests::pick))]
 fn fault(f: Field) -> u8
     ensures { result ≡ the-fault f }
 {
@@ -51,6 +53,7 @@ fn fault(f: Field) -> u8
     0
 }
 
+#[tactic(auto, unfolding(crate::specs::RowLine::refused_at))]
 fn refuse(mut r: Rows, why: u8, place: u64) -> Rows
     ensures { result ≡ refused_at why place r }
 {
@@ -81,6 +84,7 @@ fn store_start(mut starts: [u64; 17], n: u8, at: u64) -> [u64; 17]
     starts
 }
 
+#[tactic(auto, unfolding(crate::specs::RowLine::counted, basis::specs::Tests::pick))]
 fn one_more(n: u8) -> u8
     ensures { result ≡ counted n }
 {
@@ -91,6 +95,7 @@ fn one_more(n: u8) -> u8
 }
 
 // A field more that has no fault.
+#[tactic(auto, unfolding(crate::specs::RowLine::row_added))]
 fn add_row(r: Rows, f: Field) -> Rows
     requires { f.value ≤ 65535 }
     ensures { result ≡ row_added r f }
@@ -120,6 +125,7 @@ fn take_row(r: Rows, f: Field) -> Rows
 }
 
 // The line's field, one character further.
+#[tactic(auto, unfolding(crate::specs::RowLine::row_character, basis::specs::Tests::pick, crate::specs::RowLine::with_field))]
 fn take_field(mut r: Rows, f: Field) -> Rows
     ensures { result ≡ row_character r f }
 {
@@ -156,6 +162,7 @@ pub fn read_rows(r: Rows, part: &[u8]) -> Rows
 }
 
 // The place of the field that the text ends in.
+#[tactic(auto, unfolding(crate::specs::RowLine::unended, basis::specs::Tests::pick))]
 fn open_place(f: Field) -> u64
     ensures { result ≡ unended f }
 {
