@@ -123,25 +123,25 @@ padded_long (b ∷ []) h = absurd (omega arith)
 padded_long (b ∷ c ∷ f) h = refl
 
 -- Whether a field ends at a place, by the characters there.
-module _ (s : List ℕ) (at b : ℕ) (e : b ≡ get_or s at 0) (h : at < length s) where
-  here : drop at s ≡ b ∷ drop (at + 1) s
-  here = drop-some s at b e h
+module _ (s : List ℕ) (at : ℕ) (h : at < length s) where
+  here : drop at s ≡ get_or s at 0 ∷ drop (at + 1) s
+  here = drop-some s at (get_or s at 0) refl h
 
-  pub at_comma : b ≡ 44 → field_ends (drop at s) ≡ true
+  pub at_comma : get_or s at 0 ≡ 44 → field_ends (drop at s) ≡ true
   unfolding field_ends
   at_comma q = rw (here, q)
 
-  pub at_other : (b ≡ 44 → ⊥) → (b ≡ 13 → ⊥) → field_ends (drop at s) ≡ false
+  pub at_other : (get_or s at 0 ≡ 44 → ⊥) → (get_or s at 0 ≡ 13 → ⊥) → field_ends (drop at s) ≡ false
   unfolding field_ends
-  at_other p q = rw (here, ne_eqb b 44 p, ne_eqb b 13 q)
+  at_other p q = rw (here, ne_eqb (get_or s at 0) 44 p, ne_eqb (get_or s at 0) 13 q)
 
-  pub at_lone_return : b ≡ 13 → length s ≤ at + 1 → field_ends (drop at s) ≡ false
+  pub at_lone_return : get_or s at 0 ≡ 13 → length s ≤ at + 1 → field_ends (drop at s) ≡ false
   unfolding field_ends
   at_lone_return q l = rw (here, q, drop_of_length-le s l)
 
-  pub at_return : (c : ℕ) → b ≡ 13 → c ≡ get_or s (at + 1) 0 → at + 1 < length s → field_ends (drop at s) ≡ eqb c 10
+  pub at_return : get_or s at 0 ≡ 13 → at + 1 < length s → field_ends (drop at s) ≡ eqb (get_or s (at + 1) 0) 10
   unfolding field_ends
-  at_return c q d l = rw (here, q, drop-some s (at + 1) c d l)
+  at_return q l = rw (here, q, drop-some s (at + 1) (get_or s (at + 1) 0) refl l)
 
 -- The field at a place, by its end.
 module _ (s : List ℕ) (at end : ℕ) (e : end ≡ at + length (field (drop at s))) where

@@ -11,6 +11,7 @@ fn wide(b: u8) -> u32
 }
 
 // Whether a field ends at a place.
+#[tactic(auto, using(crate::proofs::FieldLaws::ends_last, crate::proofs::FieldLaws::at_comma, crate::proofs::FieldLaws::at_other, crate::proofs::FieldLaws::at_lone_return, crate::proofs::FieldLaws::at_return))]
 fn field_ends(s: &[u8], at: usize) -> bool
     ensures { result ≡ Ends-there (drop at s.now) }
 {

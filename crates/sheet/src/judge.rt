@@ -48,6 +48,7 @@ fn own_fault(cut: Cutting) -> Reading
 }
 
 // All numbers pass: the text's own fault, text after the last line, or the table.
+#[tactic(auto, unfolding(crate::specs::Scan::passed_by, basis::specs::Tests::pick))]
 fn passed(s: &[u8], cut: Cutting, r: Reading) -> Reading
     ensures { read_of result ≡ passed_by s.now cut (read_of r) }
 {
@@ -61,6 +62,7 @@ fn passed(s: &[u8], cut: Cutting, r: Reading) -> Reading
 }
 
 // A number is objected to: it is told with its place in the text. Where numbers are missing, it is the text's own fault.
+#[tactic(auto, unfolding(crate::specs::Scan::objected_by, basis::specs::Tests::pick, crate::specs::Scan::start_of))]
 fn objected(s: &[u8], cut: Cutting, bytes: &[u8], why: u8, place: usize) -> Reading
     ensures { read_of result ≡ objected_by s.now cut bytes.now why place }
 {
@@ -73,6 +75,7 @@ fn objected(s: &[u8], cut: Cutting, bytes: &[u8], why: u8, place: usize) -> Read
 }
 
 // A gap: a wrong end behind its last row goes before it.
+#[tactic(auto, unfolding(crate::specs::Scan::gapped_by, basis::specs::Tests::pick, crate::specs::Scan::start_of))]
 fn gapped(s: &[u8], cut: Cutting, bytes: &[u8], place: usize, a: u8, b: u8, c: u8) -> Reading
     ensures { read_of result ≡ gapped_by s.now cut bytes.now place (record { a = a; b = b; c = c }) }
 {

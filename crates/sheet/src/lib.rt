@@ -47,6 +47,7 @@ pub fn read(s: &[u8]) -> Reading
 }
 
 // The text of a legal table, written into buf from the place at on; the answer is the place after it.
+#[tactic(auto, unfolding(crate::specs::SheetWriter::sheet_writing, crate::specs::SheetWriter::sheet_written, basis::specs::Tests::pick))]
 pub fn write(t: Table, buf: &mut [u8], at: usize) -> Writing
     ensures { (told result ≡ sheet_writing buf.old at t) × (buf.new ≡ sheet_written buf.old at t) }
 {

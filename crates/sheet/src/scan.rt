@@ -61,6 +61,7 @@ fn is_line_over(numbers: [u16; MOST], n: usize) -> bool
 }
 
 // Why the end of a field at a place is refused (0: it is as due).
+#[tactic(auto, unfolding(crate::specs::Sheet::end_fault, basis::specs::Tests::pick))]
 fn end_refusal(s: &[u8], at: usize, last: bool) -> u8
     requires { at < length s.now }
     ensures { result ≡ end_fault s.now at last }
@@ -78,6 +79,7 @@ fn end_refusal(s: &[u8], at: usize, last: bool) -> u8
 }
 
 // The place behind the end of a field.
+#[tactic(auto, unfolding(crate::specs::Text::ending, basis::specs::Tests::pick))]
 fn behind(at: usize, last: bool) -> usize
     requires { at < 9223372036854775807 }
     ensures { result ≡ the-place-behind at last }
@@ -89,6 +91,7 @@ fn behind(at: usize, last: bool) -> usize
 }
 
 // A number more, with its end.
+#[tactic(auto, unfolding(crate::specs::Scan::number_cut))]
 fn cut_number(s: &[u8], c: Cutting, v: u16, end: usize) -> Cutting
     requires { (c.count < 275) × (end < length s.now) }
     ensures { result ≡ number_cut s.now c v end }
@@ -111,6 +114,7 @@ fn cut_number(s: &[u8], c: Cutting, v: u16, end: usize) -> Cutting
 }
 
 // Whether one field more is wanted.
+#[tactic(auto, unfolding(crate::specs::Scan::goes_on))]
 fn goes_on(c: Cutting) -> bool
     ensures { result ≡ to-go-on c }
 {
@@ -148,6 +152,7 @@ fn turn(s: &[u8], c: Cutting) -> Cutting
 }
 
 // The text cut into its first n fields at most.
+#[tactic(auto, unfolding(crate::specs::Scan::scanned))]
 pub fn scan(s: &[u8], n: usize) -> Cutting
     ensures { result ≡ scanned s.now n }
 {

@@ -7,6 +7,7 @@ ghost use Rattle.sheet.specs.Text.{ending, line, thread_lines, text};
 use decimal::places;
 use table::{Table, Thread, fields, fields_in};
 
+#[tactic(auto, unfolding(crate::specs::Text::ending, basis::specs::Tests::pick))]
 fn ending_size(last: bool) -> usize
     ensures { (result ≡ length (ending last)) × (result ≤ 2) }
 {
@@ -25,6 +26,7 @@ fn field_size(v: u16, last: bool) -> usize
     digits + end
 }
 
+#[tactic(auto, unfolding(crate::specs::Text::line_part))]
 fn line_size(vs: &[u16]) -> usize
     requires { length vs.now ≤ 16 }
     ensures { (result ≡ length (line vs.now)) × (result ≤ 7 * length vs.now) }
@@ -53,6 +55,7 @@ fn thread_size(version: u8, th: Thread) -> usize
     line_size(&vs[..n])
 }
 
+#[tactic(auto, unfolding(crate::specs::Text::thread_lines))]
 fn threads_size(version: u8, threads: [Thread; 32], n: u8) -> usize
     requires { n ≤ 32 }
     ensures { (result ≡ length (thread_lines version threads n)) × (result ≤ 32 * 56) }

@@ -136,6 +136,7 @@ pub fn take(mut f: Field, b: u8) -> Field
 }
 
 // A CR that no LF followed was a character of the field.
+#[tactic(auto, unfolding(crate::specs::Fields::settled, basis::specs::Tests::pick))]
 fn settle(f: Field) -> Field
     ensures { result ≡ settled f }
 {

@@ -124,6 +124,7 @@ fn spoil(mut w: Windows) -> Windows
 }
 
 // A field that has ended.
+#[tactic(auto, unfolding(crate::specs::FrameLines::window_taken, basis::specs::Tests::pick))]
 fn take_ended(w: Windows, f: Field) -> Windows
     ensures { result ≡ window_taken w f }
 {
@@ -137,6 +138,7 @@ fn take_ended(w: Windows, f: Field) -> Windows
 }
 
 // The line's field, one character further.
+#[tactic(auto, unfolding(crate::specs::FrameLines::window_character, crate::specs::FrameLines::with_field, basis::specs::Tests::pick))]
 fn take_field(mut w: Windows, f: Field) -> Windows
     ensures { result ≡ window_character w f }
 {
@@ -148,6 +150,7 @@ fn take_field(mut w: Windows, f: Field) -> Windows
 }
 
 // One character more of the text.
+#[tactic(auto, unfolding(crate::specs::FrameLines::windows_fed, basis::specs::Tests::pick))]
 pub fn feed_windows(w: Windows, b: u8) -> Windows
     ensures { result ≡ windows_fed w b }
 {
@@ -170,6 +173,7 @@ pub fn read_windows(w: Windows, part: &[u8]) -> Windows
 }
 
 // The end of the text: the last line may lack its end.
+#[tactic(auto, unfolding(crate::specs::FrameLines::windows_closed, basis::specs::Tests::pick))]
 pub fn close_windows(w: Windows) -> Windows
     ensures { result ≡ windows_closed w }
 {

@@ -44,6 +44,7 @@ pub fn smaller(a: u64, b: u64) -> u64
 }
 
 // A field's value with its sign.
+#[tactic(auto, unfolding(crate::specs::Numbers::signed_value, basis::specs::Tests::pick))]
 fn valued(f: Field) -> i32
     ensures { result ≡ signed_value f }
 {
@@ -106,6 +107,7 @@ fn spell(word: &[u8]) -> Field
 }
 
 // A word as a number.
+#[tactic(auto, unfolding(crate::specs::Numbers::argument, crate::specs::Numbers::plain, basis::specs::Tests::pick))]
 pub fn number_of(word: &[u8]) -> Argument
     ensures { result ≡ argument word.now }
 {

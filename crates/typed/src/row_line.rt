@@ -137,6 +137,7 @@ fn take_field(mut r: Rows, f: Field) -> Rows
 }
 
 // One character more of the text.
+#[tactic(auto, unfolding(crate::specs::RowLine::rows_fed, basis::specs::Tests::pick))]
 pub fn feed_rows(r: Rows, b: u8) -> Rows
     ensures { result ≡ rows_fed r b }
 {
@@ -173,6 +174,7 @@ fn open_place(f: Field) -> u64
 }
 
 // The end of the text.
+#[tactic(auto, unfolding(crate::specs::RowLine::rows_closed, basis::specs::Tests::pick))]
 pub fn close_rows(r: Rows) -> Rows
     ensures { result ≡ rows_closed r }
 {
