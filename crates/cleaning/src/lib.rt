@@ -61,6 +61,7 @@ fn may_pass(w: &[u16; 64], a: u8, b: u8) -> bool
 }
 
 // Whether the cache is to be cleaned at byte b, where a is who last ran before it.
+#[tactic(auto, unfolding(crate::specs::Scan::barred))]
 fn must_clean(n: u8, w: &[u16; 64], a: u8, b: u8) -> bool
     ensures { result ≡ barred n w.now a b }
 {

@@ -7,7 +7,7 @@ use native.Mathlib.Omega.{arith}
 use lib.ListN.{length, get_or, replicate, length-append, length-replicate}
 use borrow.Author.Tests.{ltb-true, lt-ltb}
 use Rattle.basis.specs.Tests.{pick, some}
-use Rattle.basis.specs.Search.{Sought, nothing, found, first, listed}
+use Rattle.basis.specs.Search.{Sought, nothing, found, listed}
 use Rattle.basis.specs.Told.{Told}
 use Rattle.basis.proofs.TestLaws.{by_test, refuted, fails, joined, some-found, some_hit, Passing}
 use Rattle.basis.proofs.SearchLaws.{first_hit, first-nothing, first-all, first_found, length-listed, listed_at, listed_past}

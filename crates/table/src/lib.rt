@@ -72,6 +72,7 @@ pub fn legal(t: Table) -> bool
 }
 
 // The leak mark of each thread, with the thread that it protects.
+#[tactic(auto, using(crate::proofs::LegalLaws::legal_small), unfolding(crate::specs::Mark::marking, crate::specs::Mark::marks_given, basis::specs::Tests::pick))]
 pub fn marks(t: Table) -> Marked
     ensures { (told result.answer ≡ marking t) × (result.marks ≡ marks_given t) }
 {

@@ -65,6 +65,7 @@ pub fn no_thread() -> Thread
 }
 
 // How many kinds a thread may be of.
+#[tactic(auto, unfolding(basis::specs::Tests::pick))]
 fn kinds_of(version: u8, offset: u16) -> u32
     ensures { result ≡ kinds version offset }
 {

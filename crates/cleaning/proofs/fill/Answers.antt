@@ -1,4 +1,4 @@
-use mathlib.Core.Path.{◌≡◌, sym, ◌∙◌}
+use mathlib.Core.Path.{◌∙◌}
 use native.Mathlib.Omega.{arith}
 use Rattle.std.proofs.Common.{◌<◌, length}
 use Rattle.cleaning.specs.Scan.{scanned}

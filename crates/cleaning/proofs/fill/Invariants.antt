@@ -1,5 +1,5 @@
 -- What is left of the scan after k cleanings begins with the one at hand, and the first k stand in the list.
-use Rattle.std.proofs.Common.{ℕ, ◌≡◌, ◌≤◌, ◌-◌, drop}
+use Rattle.std.proofs.Common.{◌≡◌, ◌≤◌, ◌-◌, drop}
 use Rattle.cleaning.specs.Scan.{first, scanned, pasted}
 use Rattle.cleaning.proofs.fill.Given as goal
 

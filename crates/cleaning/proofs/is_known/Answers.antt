@@ -1,7 +1,6 @@
 -- `cleaning::is_known` meets its contract.
 use native.Mathlib.Omega.{arith}
 use Prim.Native.Nat.{◌+◌}
-use borrow.Author.Rules.{rules}
 use borrow.Author.Tests.{lt-ltb, le-ltb, le-leb, lt-leb, ne_eqb}
 use Rattle.cleaning.specs.Cleanings.{known}
 use Rattle.cleaning.proofs.is_known.Goals as goal

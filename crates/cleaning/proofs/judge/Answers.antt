@@ -2,8 +2,6 @@
 use mathlib.Core.Path.{◌≡◌, sym, ◌∙◌, ap}
 use mathlib.Core.Bool.{true}
 use native.Mathlib.Omega.{arith}
-use borrow.Author.Rules.{rules}
-use borrow.Author.Tests.{not-true, not-false}
 use Rattle.basis.specs.Tests.{pick}
 use Rattle.table.specs.Legal.{legal}
 use Rattle.cleaning.specs.Scan.{reported, entries}

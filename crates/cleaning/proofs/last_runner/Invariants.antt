@@ -1,10 +1,8 @@
 -- Who last ran in what is left is who last ran in the whole.
-use mathlib.Core.Path.{◌≡◌, refl, sym, ◌∙◌, ap}
-use Prim.Native.Nat.{ℕ, ◌+◌, ◌-◌}
+use mathlib.Core.Path.{◌≡◌}
+use Prim.Native.Nat.{◌-◌}
 use lib.ListN.{length, drop}
-use borrow.Author.Rules.{rules}
 use Rattle.cleaning.specs.Cleanings.{nobody, last_run}
-use Rattle.cleaning.proofs.ScanLaws.{last-at, last_at_end}
 use Rattle.cleaning.proofs.last_runner.Given as goal
 
 abbrev pub invariant-loop-i : goal.invariant-loop-i

@@ -1,7 +1,6 @@
 -- `cleaning::next` meets its contract.
 use mathlib.Core.Path.{sym, ◌∙◌, ap}
 use native.Mathlib.Omega.{arith}
-use borrow.Author.Rules.{rules}
 use Rattle.cleaning.specs.Scan.{following, first}
 use Rattle.cleaning.proofs.ScanLaws.{at_end}
 use Rattle.cleaning.proofs.next.Goals as goal

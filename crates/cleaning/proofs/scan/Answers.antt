@@ -1,8 +1,7 @@
 -- `cleaning::scan` meets its contract: what is left of the trace has the same first cleaning.
-use mathlib.Core.Path.{◌≡◌, refl, sym, ◌∙◌, ap}
-use Prim.Native.Nat.{ℕ, ◌+◌, ◌-◌}
-use lib.ListN.{length, drop}
-use borrow.Author.Rules.{rules}
+use mathlib.Core.Path.{refl, sym, ◌∙◌, ap}
+use Prim.Native.Nat.{ℕ, ◌+◌}
+use lib.ListN.{drop}
 use Rattle.cleaning.specs.Cleanings.{cleaned}
 use Rattle.cleaning.specs.Scan.{first, barred}
 use Rattle.cleaning.specs.declared.Cleaning.{Cleaning}

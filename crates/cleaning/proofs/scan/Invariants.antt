@@ -1,12 +1,9 @@
 -- `cleaning::scan` meets its contract: what is left of the trace has the same first cleaning.
-use mathlib.Core.Path.{◌≡◌, refl, sym, ◌∙◌, ap}
-use Prim.Native.Nat.{ℕ, ◌+◌, ◌-◌}
+use mathlib.Core.Path.{◌≡◌}
+use Prim.Native.Nat.{◌-◌}
 use lib.ListN.{length, drop}
-use borrow.Author.Rules.{rules}
 use Rattle.cleaning.specs.Cleanings.{cleaned}
 use Rattle.cleaning.specs.Scan.{first, barred}
-use Rattle.cleaning.specs.declared.Cleaning.{Cleaning}
-use Rattle.cleaning.proofs.ScanLaws.{at-due, at_none, at_end}
 use Rattle.cleaning.proofs.scan.Given as goal
 
 abbrev pub invariant-loop-i : goal.invariant-loop-i

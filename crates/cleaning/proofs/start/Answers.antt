@@ -1,5 +1,4 @@
 -- `cleaning::start` meets its contract.
-use borrow.Author.Rules.{rules}
 use Rattle.cleaning.specs.Scan.{scanned}
 use Rattle.cleaning.proofs.start.Goals as goal
 

@@ -1,10 +1,8 @@
 -- `cleaning::ways_of` meets its contract: the numbers of the threads before this one are stored.
-use Prim.Native.Nat.{◌≤◌, ◌-◌}
-use mathlib.Core.Path.{◌≡◌, refl}
+use mathlib.Core.Path.{refl}
 use native.Mathlib.Omega.{arith}
-use lib.ListN.{length, length-set}
-use borrow.Author.Rules.{rules}
-use Rattle.cleaning.proofs.WayLaws.{Begun, begun-none, begun-next, begun_all}
+use lib.ListN.{length-set}
+use Rattle.cleaning.proofs.WayLaws.{begun-none, begun-next, begun_all}
 use Rattle.cleaning.proofs.ways_of.Goals as goal
 
 pub loop-i-init : goal.loop-i-init

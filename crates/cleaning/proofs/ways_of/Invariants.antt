@@ -1,10 +1,8 @@
 -- `cleaning::ways_of` meets its contract: the numbers of the threads before this one are stored.
 use Prim.Native.Nat.{◌≤◌, ◌-◌}
-use mathlib.Core.Path.{◌≡◌, refl}
-use native.Mathlib.Omega.{arith}
-use lib.ListN.{length, length-set}
-use borrow.Author.Rules.{rules}
-use Rattle.cleaning.proofs.WayLaws.{Begun, begun-none, begun-next, begun_all}
+use mathlib.Core.Path.{◌≡◌}
+use lib.ListN.{length}
+use Rattle.cleaning.proofs.WayLaws.{Begun}
 use Rattle.cleaning.proofs.ways_of.Given as goal
 
 abbrev pub invariant-loop-i : goal.invariant-loop-i

@@ -1,6 +1,5 @@
 -- `cleaning::written` meets its contract, answer by answer.
 use mathlib.Core.Path.{sym, ap}
-use borrow.Author.Rules.{rules}
 use Rattle.cleaning.specs.Scan.{entries}
 use Rattle.cleaning.proofs.written.Goals as goal
 

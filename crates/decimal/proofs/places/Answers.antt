@@ -1,7 +1,6 @@
 -- A digit is told off each turn, and the last number is one digit.
 use native.Mathlib.Omega.{arith}
-use Rattle.decimal.proofs.DecimalLaws.{Counting, counting_starts, counting_goes, counting_ends}
-use borrow.Author.Rules.{rules}
+use Rattle.decimal.proofs.DecimalLaws.{counting_starts, counting_goes, counting_ends}
 use Rattle.decimal.proofs.places.Goals as goal
 
 pub loop-rest-init : goal.loop-rest-init

@@ -1,11 +1,10 @@
 -- The digits before k are still to come: putting them would end in the whole number.
-use Prim.Native.Nat.{ℕ, ◌-◌, ◌/◌, ◌≤◌}
-use mathlib.Core.Path.{◌≡◌, refl, ◌∙◌, ap}
+use Prim.Native.Nat.{ℕ, ◌-◌, ◌/◌}
+use mathlib.Core.Path.{refl, ◌∙◌, ap}
 use native.Mathlib.Omega.{arith}
-use lib.ListN.{length, set, length-set}
+use lib.ListN.{set, length-set}
 use lib.Seq.{sets}
 use Rattle.decimal.proofs.DecimalLaws.{last_digits, digit-put, digits_end}
-use borrow.Author.Rules.{rules}
 use Rattle.decimal.proofs.put_number.Goals as goal
 
 pub overflow_add-end : goal.overflow_add-end

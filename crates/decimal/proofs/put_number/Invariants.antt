@@ -1,11 +1,9 @@
 -- The digits before k are still to come: putting them would end in the whole number.
-use Prim.Native.Nat.{ℕ, ◌-◌, ◌/◌, ◌≤◌}
-use mathlib.Core.Path.{◌≡◌, refl, ◌∙◌, ap}
-use native.Mathlib.Omega.{arith}
-use lib.ListN.{length, set, length-set}
+use Prim.Native.Nat.{◌-◌, ◌≤◌}
+use mathlib.Core.Path.{◌≡◌}
+use lib.ListN.{length}
 use lib.Seq.{sets}
-use Rattle.decimal.proofs.DecimalLaws.{last_digits, digit-put, digits_end}
-use borrow.Author.Rules.{rules}
+use Rattle.decimal.proofs.DecimalLaws.{last_digits}
 use Rattle.decimal.proofs.put_number.Given as goal
 
 abbrev pub invariant-loop-k : goal.invariant-loop-k

@@ -1,4 +1,3 @@
-use borrow.Author.Rules.{rules}
 use Rattle.example.proofs.example.Goals as goal
 
 pub returns : goal.returns

@@ -4,7 +4,6 @@ use Rattle.basis.specs.Tests.{pick}
 use Rattle.basis.proofs.ListLaws.{drop-some}
 use lib.ListN.{drop_of_length-le}
 use borrow.Author.Tests.{lt-ltb, le-ltb}
-use borrow.Author.Rules.{rules}
 use Rattle.numeral.proofs.read_number.Goals as goal
 
 pub returns-then-s-at : goal.returns-then-s-at

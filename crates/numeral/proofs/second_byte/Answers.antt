@@ -3,7 +3,6 @@ use Rattle.basis.specs.Tests.{pick}
 use Rattle.basis.proofs.ListLaws.{drop-some}
 use lib.ListN.{drop_of_length-le}
 use borrow.Author.Tests.{lt-ltb, le-ltb, eq-eqb, ne_eqb}
-use borrow.Author.Rules.{rules}
 use Rattle.numeral.proofs.second_byte.Goals as goal
 
 pub returns-then-s-at : goal.returns-then-s-at

@@ -3,7 +3,6 @@ use Rattle.basis.specs.Tests.{pick}
 use Rattle.numeral.specs.Number.{third}
 use lib.ListN.{drop_of_length-le}
 use borrow.Author.Tests.{le-leb, lt-leb, lt-ltb, le-ltb, eq-eqb, ne_eqb}
-use borrow.Author.Rules.{rules}
 use Rattle.numeral.proofs.third_byte.Goals as goal
 
 pub returns-then-s-at : goal.returns-then-s-at

@@ -1,9 +1,7 @@
 use Rattle.table.specs.Legal.{taken}
 use Rattle.basis.proofs.TestLaws.{some-none, some_next, some_hit, some_end}
 use borrow.Author.Tests.{eq-eqb, ne_eqb}
-use mathlib.Core.Bool.{false}
-use mathlib.Core.Path.{◌≡◌, sym}
-use Prim.Native.Nat.{◌≤◌, ◌-◌}
+use mathlib.Core.Path.{sym}
 use borrow.Author.Rules.{rules}
 use Rattle.table.proofs.judge.is_taken.Goals as goal
 

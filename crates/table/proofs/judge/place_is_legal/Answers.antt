@@ -1,6 +1,5 @@
 use Rattle.basis.specs.Tests.{pick}
 use mathlib.Core.Path.{sym, ◌∙◌}
-use borrow.Author.Rules.{rules}
 use Rattle.table.proofs.judge.place_is_legal.Goals as goal
 
 pub returns-then-thread_passes : goal.returns-then-thread_passes

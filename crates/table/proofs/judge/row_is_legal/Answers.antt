@@ -1,7 +1,6 @@
 use Rattle.table.specs.Legal.{row_legal}
 use Rattle.basis.specs.Tests.{pick}
 use borrow.Author.Tests.{lt-ltb, le-ltb}
-use borrow.Author.Rules.{rules}
 use Rattle.table.proofs.judge.row_is_legal.Goals as goal
 
 pub returns-then-i-domains : goal.returns-then-i-domains

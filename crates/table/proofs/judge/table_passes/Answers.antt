@@ -1,13 +1,9 @@
-use Rattle.table.specs.Ranges.{within, versions, domain_counts, thread_counts}
 use Rattle.table.specs.Legal.{legal, is_nothing, place_legal}
 use Rattle.flow.proofs.GapLaws.{sought, gap-sought}
-use borrow.Author.Tests.{not-true, not-false}
-use mathlib.Core.Bool.{true}
 use mathlib.Core.Path.{◌≡◌, sym, ◌∙◌}
 use Rattle.basis.specs.Tests.{and, every}
 use Rattle.flow.specs.Gap.{first_gap}
 use Rattle.table.specs.declared.Table.{Table}
-use borrow.Author.Rules.{rules}
 use Rattle.table.proofs.judge.table_passes.Goals as goal
 use Rattle.table.proofs.judge.table_passes.Goals.{After-first_gap-gap, Else-not-in_range, Else-not-in_range-2, Else-not-in_range-3}
 

@@ -4,13 +4,11 @@ use Rattle.table.specs.declared.Range.{Range}
 use Rattle.table.specs.declared.Thread.{Thread}
 use Rattle.table.specs.Legal.{field_ok, thread_ok}
 use Rattle.basis.proofs.TestLaws.{every-none, every-next, every_fails, every_end}
-use Rattle.basis.specs.Tests.{every}
-use borrow.Author.Tests.{not-true, not-false}
-use mathlib.Core.Bool.{Bool, true}
+use mathlib.Core.Bool.{Bool}
 use mathlib.Core.List.{List}
 use lib.ListN.{get_or}
 use mathlib.Core.Path.{◌≡◌, sym, ◌∙◌}
-use Prim.Native.Nat.{ℕ, ◌≤◌, ◌-◌}
+use Prim.Native.Nat.{ℕ}
 use borrow.Author.Rules.{rules}
 use Rattle.table.proofs.judge.thread_passes.Goals as goal
 

@@ -1,11 +1,7 @@
 use Rattle.table.specs.Mark.{protects, mark, marks_of}
 use Rattle.basis.proofs.SearchLaws.{listed-none, listed_next}
-use Rattle.basis.specs.Search.{nothing, listed}
+use Rattle.basis.specs.Search.{nothing}
 use native.Mathlib.Nat.{le_antisymm}
-use lib.ListN.{replicate}
-use mathlib.Core.List.{◌++◌}
-use mathlib.Core.Path.{◌≡◌}
-use Prim.Native.Nat.{◌≤◌, ◌-◌}
 use native.Mathlib.Omega.{arith}
 use borrow.Author.Rules.{rules}
 use Rattle.table.proofs.leak.mark_all.Goals as goal

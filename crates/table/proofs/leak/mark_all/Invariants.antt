@@ -1,13 +1,9 @@
-use Rattle.table.specs.Mark.{protects, mark, marks_of}
-use Rattle.basis.proofs.SearchLaws.{listed-none, listed_next}
+use Rattle.table.specs.Mark.{protects, mark}
 use Rattle.basis.specs.Search.{nothing, listed}
-use native.Mathlib.Nat.{le_antisymm}
 use lib.ListN.{replicate}
 use mathlib.Core.List.{◌++◌}
 use mathlib.Core.Path.{◌≡◌}
 use Prim.Native.Nat.{◌≤◌, ◌-◌}
-use native.Mathlib.Omega.{arith}
-use borrow.Author.Rules.{rules}
 use Rattle.table.proofs.leak.mark_all.Given as goal
 
 abbrev pub invariant-loop-i : goal.invariant-loop-i

@@ -3,14 +3,14 @@ use Rattle.table.specs.Mark.{hidden_below, seen_by, protects, mark}
 use Rattle.basis.proofs.TestLaws.{by_test}
 use Rattle.basis.proofs.SearchLaws.{first-none, first_next, first_hit, first_end}
 use Rattle.basis.specs.Tests.{pick, and}
-use Rattle.basis.specs.Search.{Sought, nothing, found, first}
+use Rattle.basis.specs.Search.{Sought, nothing, found}
 use Rattle.table.specs.Threads.{thread}
 use Rattle.table.specs.declared.Table.{Table}
 use lib.Dec.{eqb, ltb}
 use lib.ListN.{get_or}
-use mathlib.Core.Bool.{false, not}
+use mathlib.Core.Bool.{not}
 use mathlib.Core.Path.{◌≡◌, sym, ◌∙◌, ap}
-use Prim.Native.Nat.{ℕ, ◌-◌, ◌/◌, ◌%◌, ◌^◌, ◌≤◌}
+use Prim.Native.Nat.{ℕ, ◌/◌, ◌%◌, ◌^◌}
 use borrow.Author.Rules.{rules}
 use Rattle.table.proofs.leak.mark_of.Goals as goal
 use Rattle.table.proofs.leak.mark_of.Goals.{After-hides}

@@ -3,7 +3,6 @@ use Prim.Native.Nat.{ℕ}
 use mathlib.Core.List.{List}
 use lib.ListN.{get_or, get_or-eq_default}
 use mathlib.Core.Path.{sym}
-use borrow.Author.Rules.{rules}
 use Rattle.table.proofs.ranges.field_range.Goals as goal
 
 pub returns-then-k-lt-FIELDS : goal.returns-then-k-lt-FIELDS

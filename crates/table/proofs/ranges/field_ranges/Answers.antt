@@ -1,6 +1,4 @@
 use Rattle.table.specs.Ranges.{field_ranges}
-use mathlib.Core.Path.{refl}
-use borrow.Author.Rules.{rules}
 use Rattle.table.proofs.ranges.field_ranges.Goals as goal
 
 pub returns : goal.returns
