@@ -1,32 +1,18 @@
 -- The first i bytes are put: each turn puts one more.
-use Prim.Native.Nat.{◌<◌}
 use native.Mathlib.Omega.{arith}
-use lib.ListN.{length}
 use lib.Seq.{take_all, length-take-le}
 use Rattle.writer.proofs.WriterLaws.{put-none, put-length}
 use Rattle.report.proofs.TextLaws.{put_byte}
 use Rattle.report.proofs.text.put.Goals as goal
-use Rattle.report.proofs.text.put.Goals.{After-shared_slice_known-1}
-
--- The next byte has its place in the buffer.
-roomy : (c : After-shared_slice_known-1) → c.loop-i.k < length c.loop-i.buf
-roomy c =
-    omega (
-      arith,
-      put-length c.loop-i.invariant.1,
-      c.loop-i.invariant.1.end,
-      c.requires.fits,
-      length-take-le c.loop-i.i c.args.text.now c.loop-i.invariant.0,
-    )
 
 pub loop-i-init : goal.loop-i-init
 loop-i-init c = (omega arith, put-none _ _)
 
 pub bounds-buf-k : goal.bounds-buf-k
-bounds-buf-k c = omega (arith, roomy c)
+bounds-buf-k c = omega (arith, put-length c.loop-i.invariant.1, c.loop-i.invariant.1.end, c.requires.fits, length-take-le c.loop-i.i c.args.text.now c.loop-i.invariant.0)
 
 pub overflow_add-k : goal.overflow_add-k
-overflow_add-k c = omega (arith, roomy c, put-length c.loop-i.invariant.1)
+overflow_add-k c = omega (arith, put-length c.loop-i.invariant.1, c.loop-i.invariant.1.end, c.requires.fits, length-take-le c.loop-i.i c.args.text.now c.loop-i.invariant.0)
 
 pub loop-i-preserved : goal.loop-i-preserved
 loop-i-preserved c = (omega arith, put_byte _ _ c.loop-i-test.true c.loop-i.invariant.1)
