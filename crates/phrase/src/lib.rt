@@ -20,6 +20,7 @@ fn number_at(numbers: &[u64], j: usize) -> u64
 }
 
 // How many numbers were used up, one character of the template further.
+#[tactic(auto, unfolding(crate::specs::Phrase::used, basis::specs::Tests::pick))]
 fn used_up(j: usize, b: u8) -> usize
     requires { j < 9223372036854775807 }
     ensures { result ≡ j + used b }
@@ -31,6 +32,7 @@ fn used_up(j: usize, b: u8) -> usize
 }
 
 // How many bytes stand for a character of the template.
+#[tactic(auto, unfolding(crate::specs::Phrase::piece, basis::specs::Tests::pick))]
 fn piece_size(b: u8, n: u64) -> usize
     ensures { result ≡ length (piece b n) }
 {
@@ -41,6 +43,7 @@ fn piece_size(b: u8, n: u64) -> usize
 }
 
 // What stands for a character of the template.
+#[tactic(auto, unfolding(crate::specs::Phrase::piece, basis::specs::Tests::pick))]
 fn put_piece(buf: &mut [u8], at: usize, b: u8, n: u64) -> usize
     requires { Room buf.old at (piece b n) }
     ensures { Put buf.old at buf.new result (piece b n) }

@@ -31,24 +31,6 @@ pub digit_small : (b : ℕ) → is_digit b ≡ true → b - 48 < 10
 unfolding is_digit
 digit_small b e = omega (arith, leb-true b 57 (and_both (leb 48 b) (leb b 57) e).1)
 
--- The cases of a character.
-module _ (f : Field) (b : ℕ) where
-  pub character-lf : b ≡ 10 → character f b ≡ ended_by 2 f
-  unfolding character pick
-  character-lf h = rw (eq-eqb b 10 h)
-
-  pub character_cr : (b ≡ 10 → ⊥) → b ≡ 13 → character f b ≡ held (settled f)
-  unfolding character pick
-  character_cr h i = rw (ne_eqb b 10 h, eq-eqb b 13 i)
-
-  pub character_comma : (b ≡ 10 → ⊥) → (b ≡ 13 → ⊥) → b ≡ 44 → character f b ≡ ended_by 1 (settled f)
-  unfolding character pick
-  character_comma h i j = rw (ne_eqb b 10 h, ne_eqb b 13 i, eq-eqb b 44 j)
-
-  pub character_other : (b ≡ 10 → ⊥) → (b ≡ 13 → ⊥) → (b ≡ 44 → ⊥) → character f b ≡ taken (settled f) b
-  unfolding character pick
-  character_other h i j = rw (ne_eqb b 10 h, ne_eqb b 13 i, ne_eqb b 44 j)
-
 -- Reading on: the field goes on, it ends, or the part does.
 module _ (f : Field) (s : List ℕ) (k : ℕ) where
   pub read_more : {g : Field} → g ≡ fed f (get_or s k 0) → k < length s → g.ended ≡ 0 → read_on f (drop k s) k ≡ read_on g (drop (k + 1) s) (k + 1)

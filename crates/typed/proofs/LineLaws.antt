@@ -18,9 +18,9 @@ use Rattle.typed.specs.declared.Rows.{Rows}
 use Rattle.typed.specs.declared.Windows.{Windows}
 
 -- A field without a fault is no more than 65,535.
-pub fault-none : (f : Field) → fault f ≡ 0 → f.value ≤ 65535
+pub fault_none : (f : Field) → fault f ≡ 0 → f.value ≤ 65535
 unfolding fault pick
-fault-none f e =
+fault_none f e =
     by_test (eqb f.size 0)
     (λ p. let q : ◌≡◌ {A = ℕ} 1 0 = rw p at e in absurd (omega arith))
     (λ p. by_test (or (padded f) (not (is_plain f)))

@@ -43,6 +43,7 @@ fn is_digit(b: u8) -> bool
 }
 
 // A digit's own value.
+#[tactic(auto, using(crate::proofs::FieldLaws::digit_low, crate::proofs::FieldLaws::digit_small))]
 fn worth(b: u8) -> u64
     requires { a-digit b ≡ true }
     ensures { (result ≡ b - 48) × (result < 10) }
@@ -164,6 +165,7 @@ fn end(mut f: Field, by: u8) -> Field
 }
 
 // One character more of the text.
+#[tactic(auto, unfolding(crate::specs::Fields::fed, crate::specs::Fields::character, basis::specs::Tests::pick))]
 pub fn feed(f: Field, b: u8) -> Field
     ensures { result ≡ fed f b }
 {

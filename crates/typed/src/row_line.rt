@@ -114,6 +114,7 @@ fn add_row(r: Rows, f: Field) -> Rows
 }
 
 // A field that has ended.
+#[tactic(auto, using(crate::proofs::LineLaws::fault_none), unfolding(crate::specs::RowLine::row_taken, basis::specs::Tests::pick))]
 fn take_row(r: Rows, f: Field) -> Rows
     ensures { result ≡ row_taken r f }
 {
