@@ -80,10 +80,7 @@ pub fn load(rt: &impl Files, buf: &mut [u8]) -> Filled
     ensures { result.count ≤ length buf.new }
 {
     match fs::open(rt, "table.bin") {
-        Ok(file) => {
-            let mut file = file;
-            fill(&mut file, buf)
-        }
+        Ok(mut file) => fill(&mut file, buf),
         Err(error) => Filled {
             count: 0,
             whole: error.kind() == ErrorKind::NotFound,
