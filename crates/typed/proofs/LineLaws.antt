@@ -50,9 +50,9 @@ module _ (r : Rows) (s : List ℕ) (i : ℕ) where
   rows_end h = rw (drop_of_length-le s h)
 
 module _ (w : Windows) (s : List ℕ) (i : ℕ) where
-  pub windows-next : {v : Windows} → v ≡ windows_fed w (get_or s i 0) → i < length s → windows_read w (drop i s) ≡ windows_read v (drop (i + 1) s)
+  pub windows_next : {v : Windows} → v ≡ windows_fed w (get_or s i 0) → i < length s → windows_read w (drop i s) ≡ windows_read v (drop (i + 1) s)
   unfolding windows_read
-  windows-next {v} e h = rw (drop-some s i (get_or s i 0) refl h) (ap (λ (x : Windows). windows_read x (drop (i + 1) s)) (sym e))
+  windows_next {v} e h = rw (drop-some s i (get_or s i 0) refl h) (ap (λ (x : Windows). windows_read x (drop (i + 1) s)) (sym e))
 
   pub windows_end : length s ≤ i → windows_read w (drop i s) ≡ w
   unfolding windows_read

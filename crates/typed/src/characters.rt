@@ -195,6 +195,7 @@ pub fn close(f: Field) -> Field
 }
 
 // The characters of a part of the text from a place on, until a field ends or the part does.
+#[tactic(auto, using(crate::proofs::FieldLaws::read_more, crate::proofs::FieldLaws::read_stop, crate::proofs::FieldLaws::read_end))]
 pub fn read_field(f: Field, part: &[u8], from: usize) -> Reading
     ensures { result ≡ read_on f (drop from part.now) from }
 {

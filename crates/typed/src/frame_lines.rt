@@ -162,6 +162,7 @@ pub fn feed_windows(w: Windows, b: u8) -> Windows
 }
 
 // The characters of a part of the text.
+#[tactic(auto, using(crate::proofs::LineLaws::windows_next, crate::proofs::LineLaws::windows_end))]
 pub fn read_windows(w: Windows, part: &[u8]) -> Windows
     ensures { result ≡ windows_read w part.now }
 {

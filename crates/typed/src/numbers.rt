@@ -87,6 +87,7 @@ pub fn command_of(f: Field) -> Signed
 }
 
 // A word, all of which is taken as one field.
+#[tactic(auto, using(crate::proofs::NumberLaws::spelt_next, crate::proofs::NumberLaws::spelt_end))]
 fn spell(word: &[u8]) -> Field
     ensures { result ≡ spelt (blank 0) word.now }
 {

@@ -153,6 +153,7 @@ pub fn feed_rows(r: Rows, b: u8) -> Rows
 }
 
 // The characters of a part of the text.
+#[tactic(auto, using(crate::proofs::LineLaws::rows_next, crate::proofs::LineLaws::rows_end))]
 pub fn read_rows(r: Rows, part: &[u8]) -> Rows
     ensures { result ≡ rows_read r part.now }
 {
