@@ -49,6 +49,7 @@ pub fn say_refused(rt: &(impl Print + Eprint), why: u8, place: u64) {
 }
 
 // The last line: how many steps, or the refusal.
+#[tactic(auto, unfolding(crate::specs::Text::last_line, basis::specs::Tests::pick))]
 fn put_last(out: &mut [u8], at: usize, why: u8, clock: u32) -> Printing
     ensures { (told result ≡ printing out.old at (last_line why clock)) × (out.new ≡ printed out.old at (last_line why clock)) }
 {
