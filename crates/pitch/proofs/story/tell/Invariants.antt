@@ -1,6 +1,5 @@
 -- `pitch::story::tell` is safe and ends after 30 turns.
-use Prim.Native.Nat.{◌-◌, ◌≤◌}
-use borrow.Author.Rules.{rules}
+use Rattle.std.proofs.Common.{◌-◌, ◌≤◌}
 use Rattle.pitch.proofs.story.tell.Given as goal
 
 abbrev pub invariant-loop-clock : goal.invariant-loop-clock

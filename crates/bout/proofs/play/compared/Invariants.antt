@@ -1,6 +1,0 @@
--- `bout::play::compared` is safe and ends: i counts up to 32.
-use Rattle.std.proofs.Common.{◌-◌, rules}
-use Rattle.bout.proofs.play.compared.Given as goal
-
-abbrev pub invariant-loop-i : goal.invariant-loop-i
-invariant-loop-i l = Unit {0}

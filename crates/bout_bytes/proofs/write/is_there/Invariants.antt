@@ -1,6 +1,0 @@
--- `bout_bytes::write::is_there` is safe and ends: i counts up to 900.
-use Rattle.std.proofs.Common.{◌-◌, rules}
-use Rattle.bout_bytes.proofs.write.is_there.Given as goal
-
-abbrev pub invariant-loop-i : goal.invariant-loop-i
-invariant-loop-i l = Unit {0}

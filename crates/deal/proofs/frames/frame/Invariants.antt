@@ -1,6 +1,0 @@
--- `deal::frames::frame` is safe and ends: k counts up to count.
-use Rattle.std.proofs.Common.{◌-◌, rules}
-use Rattle.deal.proofs.frames.frame.Given as goal
-
-abbrev pub invariant-loop-k : goal.invariant-loop-k
-invariant-loop-k l = Unit {0}

@@ -1,6 +1,0 @@
--- `deal::states::state` is safe and ends: i counts up to count.
-use Rattle.std.proofs.Common.{◌-◌, rules}
-use Rattle.deal.proofs.states.state.Given as goal
-
-abbrev pub invariant-loop-i : goal.invariant-loop-i
-invariant-loop-i l = Unit {0}

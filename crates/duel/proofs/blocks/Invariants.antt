@@ -1,7 +1,0 @@
--- `duel::blocks` is safe and ends: k counts up to 4.
-use Prim.Native.Nat.{◌-◌}
-use borrow.Author.Rules.{rules}
-use Rattle.duel.proofs.blocks.Given as goal
-
-abbrev pub invariant-loop-k : goal.invariant-loop-k
-invariant-loop-k l = Unit {0}

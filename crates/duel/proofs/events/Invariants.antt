@@ -1,7 +1,0 @@
--- `duel::events` is safe and ends: i counts up to 32.
-use Prim.Native.Nat.{◌-◌}
-use borrow.Author.Rules.{rules}
-use Rattle.duel.proofs.events.Given as goal
-
-abbrev pub invariant-loop-i : goal.invariant-loop-i
-invariant-loop-i l = Unit {0}

@@ -1,7 +1,0 @@
--- `policies::row` is safe and ends: j counts up to 16.
-use Prim.Native.Nat.{◌-◌}
-use borrow.Author.Rules.{rules}
-use Rattle.policies.proofs.row.Given as goal
-
-abbrev pub invariant-loop-j : goal.invariant-loop-j
-invariant-loop-j l = Unit {0}

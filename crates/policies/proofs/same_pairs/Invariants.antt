@@ -1,7 +1,0 @@
--- `policies::same_pairs` is safe and ends: k counts up to 256.
-use Prim.Native.Nat.{◌-◌}
-use borrow.Author.Rules.{rules}
-use Rattle.policies.proofs.same_pairs.Given as goal
-
-abbrev pub invariant-loop-k : goal.invariant-loop-k
-invariant-loop-k l = Unit {0}

@@ -1,6 +1,0 @@
--- `readings::main` is safe and ends: k counts up to 3000.
-use Rattle.std.proofs.Common.{◌-◌, rules}
-use Rattle.readings.proofs.main.Given as goal
-
-abbrev pub invariant-loop-k : goal.invariant-loop-k
-invariant-loop-k l = Unit {0}

@@ -1,6 +1,0 @@
--- `rival::frames::frame_steps` is safe and ends: k counts up to 64.
-use Rattle.std.proofs.Common.{◌-◌, rules}
-use Rattle.rival.proofs.frames.frame_steps.Given as goal
-
-abbrev pub invariant-loop-k : goal.invariant-loop-k
-invariant-loop-k l = Unit {0}

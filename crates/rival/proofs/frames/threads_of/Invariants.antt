@@ -1,6 +1,0 @@
--- `rival::frames::threads_of` is safe and ends: i counts up to count.
-use Rattle.std.proofs.Common.{◌-◌, rules}
-use Rattle.rival.proofs.frames.threads_of.Given as goal
-
-abbrev pub invariant-loop-i : goal.invariant-loop-i
-invariant-loop-i l = Unit {0}

@@ -1,6 +1,0 @@
--- `rival::seen::threads_shown` is safe and ends: i counts up to 32.
-use Rattle.std.proofs.Common.{◌-◌, rules}
-use Rattle.rival.proofs.seen.threads_shown.Given as goal
-
-abbrev pub invariant-loop-i : goal.invariant-loop-i
-invariant-loop-i l = Unit {0}

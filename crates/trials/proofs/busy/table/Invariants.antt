@@ -1,6 +1,0 @@
--- `trials::busy::table` is safe and ends: i counts up to count.
-use Rattle.std.proofs.Common.{◌-◌, rules}
-use Rattle.trials.proofs.busy.table.Given as goal
-
-abbrev pub invariant-loop-i : goal.invariant-loop-i
-invariant-loop-i l = Unit {0}
