@@ -1,24 +1,27 @@
 // clean: the cleanings that a trace asks for, a part of the trace at a time.
 use super::files::{end_file, open_named};
 use super::refusal::{is_accepted, refuse, refuse_table};
-use super::say::{end_wrong, place_after, say, write};
+use super::say::{FINE, REFUSED, Stream, WRONG, end_wrong, place_after, say, write};
 use super::sizes::smaller;
 use super::tables::{judge, load};
 use super::words::{has_words, is_word};
 use cleaning::{Cleaning, Report, last_runner};
 use input::{read_on, turns_left};
-use libc::STDOUT_FILENO;
 use listed::make_list;
 use sentence::explain_byte;
+use std::io::{Error, Read};
+use std::rt::Runtime;
 use table::Table;
 
-// The trace so far: how many bytes it had, who ran last (255 nobody), how many cleanings there were, and whether more may come.
+// The trace so far: how many bytes it had, who ran last (255 nobody), how many cleanings there were, whether more may come, and the status
+// where not.
 #[derive(Clone, Copy)]
 struct So {
     steps: u64,
     last: u8,
     cleanings: u64,
     open: bool,
+    status: u8,
 }
 
 // Whether a byte names a thread of so many, or is 255.
@@ -115,10 +118,10 @@ fn piece_at(part: &[u8], from: usize, last: u8) -> Piece {
 }
 
 // 21, at a byte that names no thread.
-fn refuse_byte(t: Table, step: u64, b: u8) {
+fn refuse_byte(rt: &(impl Print + Eprint), t: Table, step: u64, b: u8) {
     let mut out = [0u8; 512];
     let n = explain_byte(&mut out, step, b, t.count);
-    refuse(STDOUT_FILENO, 21, &out, n);
+    refuse(rt, Stream::Output, 21, &out, n);
 }
 
 fn longer(steps: u64, n: usize) -> u64 {
@@ -131,7 +134,7 @@ fn longer(steps: u64, n: usize) -> u64 {
 }
 
 // One piece more: its cleanings are printed. A byte that names no thread ends the trace.
-fn take_piece(t: Table, so: So, p: Piece, out: &mut [u8]) -> So {
+fn take_piece(rt: &(impl Print + Eprint), t: Table, so: So, p: Piece, out: &mut [u8]) -> So {
     let bytes = p.bytes;
     let n = smaller(p.len, 64);
     let k = smaller(known_front(t.count, &bytes[..n]), n);
@@ -140,91 +143,119 @@ fn take_piece(t: Table, so: So, p: Piece, out: &mut [u8]) -> So {
     let report = r.report;
     let m = count_of(report);
     let end = smaller(put_cleanings(out, so.steps, list, m), out.len());
-    let open = write(STDOUT_FILENO, &out[..end]);
+    let open = write(rt, &out[..end]);
     let steps = if 0 < k {
         longer(so.steps, k - 1)
     } else {
         so.steps
     };
     if k < n {
-        refuse_byte(t, steps, bytes[k]);
+        refuse_byte(rt, t, steps, bytes[k]);
     }
     So {
         steps,
         last: last_runner(t, &bytes[..k]),
         cleanings: longer(so.cleanings, m),
         open: if k < n { false } else { open },
+        status: if k < n { REFUSED } else { FINE },
     }
 }
 
 // All pieces of a part.
-fn take_part(t: Table, so: So, part: &[u8]) -> So {
-    let mut out = io::buffer();
+fn take_part(rt: &(impl Print + Eprint), t: Table, so: So, part: &[u8]) -> So {
+    let mut out = [0u8; 4096];
     let mut s = so;
     for i in 0..part.len() {
         if i % 63 == 0 {
             if s.open {
-                s = take_piece(t, s, piece_at(part, i, s.last), &mut out);
+                s = take_piece(rt, t, s, piece_at(part, i, s.last), &mut out);
             }
         }
     }
     s
 }
 
+// The trace read to its end, and why a read failed, if one did.
+#[derive(Clone, Copy)]
+struct Taken {
+    so: So,
+    whole: bool,
+    error: Option<Error>,
+}
+
 // The trace of a legal table, part by part.
-fn take_trace(t: Table, i: usize, fd: i32) {
-    let mut part = io::large_buffer();
+fn take_trace<S: Read>(rt: &(impl Print + Eprint), t: Table, from: &mut S) -> Taken {
+    let mut part = [0u8; 65536];
     let mut so = So {
         steps: 0,
         last: 255,
         cleanings: 0,
         open: true,
+        status: FINE,
     };
     let mut whole = true;
+    let mut error = None;
     let mut turns = 1000000000000u64;
     while 0 < turns {
-        let f = read_on(fd, &mut part, 0);
+        let f = read_on(from, &mut part, 0);
         let n = f.count;
-        so = take_part(t, so, &part[..n]);
+        so = take_part(rt, t, so, &part[..n]);
         whole = if 0 < n { true } else { f.whole };
+        error = f.error;
         let more = if f.open { true } else { 0 < n };
         turns = turns_left(turns, if so.open { more } else { false });
     }
-    if !whole {
-        end_file(i);
-        return;
+    Taken { so, whole, error }
+}
+
+// The cleanings of the trace that word 3 names.
+fn clean_trace<S: Read>(rt: &impl Runtime, t: Table, from: &mut S) -> u8 {
+    let taken = take_trace(rt, t, from);
+    let so = taken.so;
+    if !taken.whole {
+        return end_file(rt, 3, taken.error);
     }
-    if so.open {
-        say(STDOUT_FILENO, b"cleanings #\n", &[so.cleanings]);
+    if !so.open {
+        return so.status;
+    }
+    say(rt, b"cleanings #\n", &[so.cleanings]);
+    FINE
+}
+
+// The table is judged, and the trace opened.
+fn clean_table<S: Read>(rt: &impl Runtime, from: &mut S, text: &[u8]) -> u8 {
+    let r = judge(from, text);
+    let v = r.verdict;
+    let t = r.table;
+    match open_named(rt, 3) {
+        None => WRONG,
+        Some(source) => {
+            if is_accepted(v) {
+                let mut trace = source;
+                return clean_trace(rt, t, &mut trace);
+            }
+            refuse_table(rt, Stream::Output, text, v)
+        }
     }
 }
 
-pub fn clean() {
-    if !has_words(3) {
-        return;
+pub fn clean(rt: &impl Runtime) -> u8 {
+    if !has_words(rt, 3) {
+        return WRONG;
     }
-    if is_word(2, b"-") {
-        if is_word(3, b"-") {
-            end_wrong(b"only one file can be standard input");
-            return;
+    if is_word(rt, 2, b"-") {
+        if is_word(rt, 3, b"-") {
+            return end_wrong(rt, "only one file can be standard input");
         }
     }
-    let mut text = io::large_buffer();
-    let got = load(2, &mut text);
-    if !got.ok {
-        return;
-    }
-    let fd = open_named(3);
-    if fd < 0 {
-        return;
-    }
+    let mut text = [0u8; 65536];
+    let got = load(rt, 2, &mut text);
     let n = got.len;
-    let r = judge(got.fd, &text[..n]);
-    let v = r.verdict;
-    let t = r.table;
-    if is_accepted(v) {
-        take_trace(t, 3, fd);
-        return;
+    match got.from {
+        None => WRONG,
+        Some(source) => {
+            let mut from = source;
+            clean_table(rt, &mut from, &text[..n])
+        }
     }
-    refuse_table(STDOUT_FILENO, &text[..n], v);
 }

@@ -1,6 +1,7 @@
 // The commands of a drive: one number a line.
 use super::sizes::smaller;
 use input::{read_on, turns_left};
+use std::io::Read;
 use typed::{Field, close, command_of, new_text, read_field};
 
 // How many lines there are, and whether each is a number.
@@ -48,16 +49,16 @@ fn count_part(g: Going, part: &[u8]) -> Going {
     Going { field, counted }
 }
 
-// All lines that a descriptor gives; the last may lack its end.
-pub fn count_commands(fd: i32) -> Counted {
-    let mut part = io::large_buffer();
+// All lines that a source gives; the last may lack its end.
+pub fn count_commands<S: Read>(from: &mut S) -> Counted {
+    let mut part = [0u8; 65536];
     let mut g = Going {
         field: new_text(),
         counted: Counted { ok: true, lines: 0 },
     };
     let mut turns = 1000000000000u64;
     while 0 < turns {
-        let f = read_on(fd, &mut part, 0);
+        let f = read_on(from, &mut part, 0);
         let n = f.count;
         g = count_part(g, &part[..n]);
         let more = if f.open { true } else { 0 < n };
@@ -74,7 +75,6 @@ pub fn count_commands(fd: i32) -> Counted {
 // The commands that are still to be taken: a part of their text, and the place in it.
 #[derive(Clone, Copy)]
 pub struct Left {
-    pub fd: i32,
     pub field: Field,
     pub from: usize,
     pub len: usize,
@@ -82,11 +82,10 @@ pub struct Left {
 }
 
 // The next part of the text.
-fn refill(l: Left, part: &mut [u8]) -> Left {
-    let f = read_on(l.fd, part, 0);
+fn refill<S: Read>(from: &mut S, l: Left, part: &mut [u8]) -> Left {
+    let f = read_on(from, part, 0);
     let field = l.field;
     Left {
-        fd: l.fd,
         field,
         from: 0,
         len: f.count,
@@ -100,7 +99,6 @@ fn read_more(l: Left, part: &[u8]) -> Left {
     let r = read_field(field, part, l.from);
     let next = r.field;
     Left {
-        fd: l.fd,
         field: next,
         from: r.next,
         len: l.len,
@@ -109,12 +107,12 @@ fn read_more(l: Left, part: &[u8]) -> Left {
 }
 
 // Up to the end of the next line, or of the text.
-fn next_line(l: Left, part: &mut [u8]) -> Left {
+fn next_line<S: Read>(from: &mut S, l: Left, part: &mut [u8]) -> Left {
     let mut k = l;
     let mut turns = 1000000000000u64;
     while 0 < turns {
         if k.len <= k.from {
-            k = refill(k, part);
+            k = refill(from, k, part);
         }
         let n = smaller(k.len, part.len());
         k = read_more(k, &part[..n]);
@@ -126,11 +124,17 @@ fn next_line(l: Left, part: &mut [u8]) -> Left {
 }
 
 // The commands of the next n steps go to the front; where there is none more it is 0.
-pub fn take_commands(l: Left, part: &mut [u8], commands: &mut [i64], n: usize) -> Left {
+pub fn take_commands<S: Read>(
+    from: &mut S,
+    l: Left,
+    part: &mut [u8],
+    commands: &mut [i64],
+    n: usize,
+) -> Left {
     let mut k = l;
     for i in 0..commands.len() {
         if i < n {
-            k = next_line(k, part);
+            k = next_line(from, k, part);
             let s = command_of(close(k.field));
             commands[i] = s.value as i64;
         }

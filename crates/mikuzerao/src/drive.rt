@@ -1,40 +1,43 @@
 // drive: a step and a move of the actuator for each command.
 use super::begin::{input_once, take_events};
 use super::commands::{Left, count_commands, take_commands};
-use super::files::open_named;
+use super::files::{Source, is_rewound, open_named};
 use super::framing::{Framing, refuse_frame, take_frame};
 use super::masks::{masks_left, take_masks};
 use super::options::{DRIVE, Options, take_options};
 use super::refusal::{is_accepted, refuse, refuse_step, refuse_table};
-use super::say::{end_wrong, place_after, say, write};
+use super::say::{FINE, REFUSED, Stream, WRONG, end_wrong, place_after, say, write};
 use super::sizes::{smaller, steps_in, whole_bytes};
 use super::stop::{Had, stop_at};
 use super::tables::{judge, load};
+use super::words::count_words;
 use actuator::{Actuator, Driven, drive_in_frame, start};
 use input::{fill, read_on, turns_left};
-use libc::STDOUT_FILENO;
 use scheduler::{Answer, Outcome, fresh};
 use sentence::{explain_absent, explain_drive};
 use state::State;
+use std::io::{Read, Seek};
+use std::rt::Runtime;
 use table::Table;
 use typed::new_text;
 
-// A drive after a block: state, actuator, and whether more may come.
+// A drive after a block: state, actuator, the commands that are left, whether more may come, and the status where not.
 #[derive(Clone, Copy)]
 struct Going {
     state: State,
     actuator: Actuator,
     left: Left,
     open: bool,
+    status: u8,
 }
 
-// How many bytes a descriptor gives.
-fn count_bytes(fd: i32) -> u64 {
-    let mut part = io::large_buffer();
+// How many bytes a source gives.
+fn count_bytes<S: Read>(from: &mut S) -> u64 {
+    let mut part = [0u8; 65536];
     let mut n: u64 = 0;
     let mut turns = 1000000000000u64;
     while 0 < turns {
-        let f = read_on(fd, &mut part, 0);
+        let f = read_on(from, &mut part, 0);
         if n < 1000000000000000000 {
             if f.count < 65537 {
                 n += f.count as u64;
@@ -44,15 +47,6 @@ fn count_bytes(fd: i32) -> u64 {
         turns = turns_left(turns, more);
     }
     n
-}
-
-// Whether a descriptor stands at its start again: a pipe cannot.
-fn is_rewound(fd: i32) -> bool {
-    if libc::lseek(fd, 0, libc::SEEK_SET) == 0 {
-        return true;
-    }
-    end_wrong(b"steps and commands of a drive are files");
-    false
 }
 
 // A command for each step; one that is short of bytes needs none and may have one.
@@ -106,22 +100,27 @@ fn put_line(out: &mut [u8], at: usize, clock: u64, b: u8, command: i32, position
 }
 
 // The refusal of a step: 15 is the thread's, and has no clock.
-fn refuse_drive(t: Table, o: Options, why: u8, clock: u32, had: Had) {
+fn refuse_drive(
+    rt: &(impl Print + Eprint),
+    t: Table,
+    o: Options,
+    why: u8,
+    clock: u32,
+    had: Had,
+) -> u8 {
     let mut out = [0u8; 512];
     if why == 15 {
         let n = explain_absent(&mut out, true, o.thread, t.count);
-        refuse(STDOUT_FILENO, 15, &out, n);
-        return;
+        return refuse(rt, Stream::Output, 15, &out, n);
     }
     if why == 20 {
         let s = o.start as i64;
         let minus = s < 0;
         let size = if minus { (0 - s) as u64 } else { s as u64 };
         let n = explain_drive(&mut out, false, o.rate, minus, size);
-        refuse_step(STDOUT_FILENO, 20, clock, &out, n);
-        return;
+        return refuse_step(rt, Stream::Output, 20, clock, &out, n);
     }
-    stop_at(false, t, why, clock, had);
+    stop_at(rt, false, t, why, clock, had)
 }
 
 // The trace's byte of an answer.
@@ -253,20 +252,27 @@ fn ride_all(
 }
 
 // Where steps, masks and commands come from, and what is asked for.
-#[derive(Clone, Copy)]
-struct Sources {
-    steps: i32,
-    events: i32,
+#[derive(Drop)]
+struct Sources<S> {
+    steps: S,
+    events: Option<S>,
+    commands: S,
     options: Options,
 }
 
 // The steps are at their end: a rest is a step short of bytes, and masks must not be left over.
-fn finish(t: Table, clock: u32, events: i32, rest: usize) {
+fn finish<S: Read>(
+    rt: &(impl Print + Eprint),
+    t: Table,
+    clock: u32,
+    events: &mut Option<S>,
+    rest: usize,
+) -> u8 {
     let left = masks_left(events);
     if rest == 0 {
         if !left {
-            say(STDOUT_FILENO, b"end #\n", &[clock as u64]);
-            return;
+            say(rt, b"end #\n", &[clock as u64]);
+            return FINE;
         }
     }
     let had = Had {
@@ -274,16 +280,7 @@ fn finish(t: Table, clock: u32, events: i32, rest: usize) {
         rest: if left { 1 } else { 0 },
         mask: 0,
     };
-    stop_at(false, t, 13, clock, had);
-}
-
-// The last line where a step was refused; false where none was.
-fn is_stopped(t: Table, o: Options, clock: u32, why: u8, had: Had) -> bool {
-    if why == 0 {
-        return false;
-    }
-    refuse_drive(t, o, why, clock, had);
-    true
+    stop_at(rt, false, t, 13, clock, had)
 }
 
 fn number_behind(why: u8, masks: usize, whole: usize) -> u8 {
@@ -309,11 +306,12 @@ fn steps_between(a: u32, b: u32) -> usize {
 }
 
 // The next 1,000 steps, with their masks and commands.
-fn take_block(
+fn take_block<S: Read>(
+    rt: &(impl Print + Eprint),
     t: Table,
     g: Framing,
     h: Going,
-    src: Sources,
+    src: &mut Sources<S>,
     out: &mut [u8],
     part: &mut [u8],
 ) -> Going {
@@ -325,13 +323,13 @@ fn take_block(
     let a = h.actuator;
     let left = h.left;
     let most = smaller(1000 * (t.count as usize), 32000);
-    let f = fill(src.steps, &mut steps[..most]);
+    let f = fill(&mut src.steps, &mut steps[..most]);
     let n = smaller(f.count, most);
     let end = smaller(whole_bytes(n, t.count), 32000);
     let whole = steps_in(end, t.count);
-    let came = take_masks(src.events, &mut masks, whole);
+    let came = take_masks(&mut src.events, &mut masks, whole);
     let m = smaller(came.masks, 1000);
-    let next = take_commands(left, part, &mut commands, whole);
+    let next = take_commands(&mut src.commands, left, part, &mut commands, whole);
     let r = Ride {
         state: s,
         actuator: a,
@@ -340,33 +338,48 @@ fn take_block(
     };
     let q = ride_all(t, g, r, &masks[..m], &steps[..end], &commands, out);
     let state = q.state;
-    let moved = q.actuator;
     let k = smaller(q.at, out.len());
-    let open = write(STDOUT_FILENO, &out[..k]);
+    let open = write(rt, &out[..k]);
+    let why = number_behind(q.why, m, whole);
     let had = Had {
         bytes: t.count as usize,
         rest: came.rest,
         mask: mask_at(&masks, steps_between(s.clock, state.clock)),
     };
-    let stopped = is_stopped(t, o, state.clock, number_behind(q.why, m, whole), had);
-    let over = if stopped { true } else { n < most };
-    if !stopped {
-        if n < most {
-            finish(t, state.clock, src.events, n - end);
-        }
-    }
+    let over = n < most;
+    let status = if why != 0 {
+        refuse_drive(rt, t, o, why, state.clock, had)
+    } else if over {
+        finish(rt, t, state.clock, &mut src.events, n - end)
+    } else {
+        FINE
+    };
     Going {
         state,
-        actuator: moved,
+        actuator: q.actuator,
         left: next,
-        open: if over { false } else { open },
+        open: is_open(why != 0, over, open),
+        status,
     }
 }
 
+// Whether more may come: nothing was refused, the steps are not at their end, and the lines could be written.
+fn is_open(refused: bool, over: bool, written: bool) -> bool {
+    if refused {
+        return false;
+    }
+    if over { false } else { written }
+}
+
 // Block after block, from a fresh start.
-fn drive_all(t: Table, g: Framing, src: Sources, commands: i32) {
-    let mut out = io::large_buffer();
-    let mut part = io::large_buffer();
+fn drive_all<S: Read>(
+    rt: &(impl Print + Eprint),
+    t: Table,
+    g: Framing,
+    src: &mut Sources<S>,
+) -> u8 {
+    let mut out = [0u8; 65536];
+    let mut part = [0u8; 65536];
     let o = src.options;
     let begun = fresh(t);
     let s = begun.state;
@@ -378,102 +391,164 @@ fn drive_all(t: Table, g: Framing, src: Sources, commands: i32) {
             smaller(o.thread as usize, 255) as u8,
         ),
         left: Left {
-            fd: commands,
             field: new_text(),
             from: 0,
             len: 0,
             over: false,
         },
         open: true,
+        status: FINE,
     };
     let mut turns = 1000000000000u64;
     while 0 < turns {
-        h = take_block(t, g, h, src, &mut out, &mut part);
+        h = take_block(rt, t, g, h, src, &mut out, &mut part);
         turns = turns_left(turns, h.open);
     }
+    h.status
 }
 
-// A legal table: its frame is judged and the commands are counted, and the run begins.
-fn begin_drive(t: Table, g: Framing, src: Sources, commands: i32, lines: u64) {
-    if refuse_frame(STDOUT_FILENO, t, g) {
-        return;
+// What is read twice stands at its start again.
+fn is_again<F: Read + Seek, I: Read>(rt: &impl Eprint, from: &mut Source<F, I>) -> bool {
+    if is_rewound(from) {
+        return true;
     }
-    let bytes = count_bytes(src.steps);
-    if !is_rewound(src.steps) {
-        return;
+    end_wrong(rt, "steps and commands of a drive are files");
+    false
+}
+
+// A legal table: its frame is judged and the steps are counted, and the run begins.
+fn begin_drive<F: Read + Seek, I: Read>(
+    rt: &(impl Print + Eprint),
+    t: Table,
+    g: Framing,
+    src: &mut Sources<Source<F, I>>,
+    lines: u64,
+) -> u8 {
+    if refuse_frame(rt, Stream::Output, t, g) {
+        return REFUSED;
+    }
+    let bytes = count_bytes(&mut src.steps);
+    if !is_again(rt, &mut src.steps) {
+        return WRONG;
     }
     if !is_one_each(bytes, t.count, lines) {
-        end_wrong(b"there is not one command for each step");
-        return;
+        return end_wrong(rt, "there is not one command for each step");
     }
-    say(STDOUT_FILENO, b"threads #\n", &[t.count as u64]);
-    drive_all(t, g, src, commands);
+    say(rt, b"threads #\n", &[t.count as u64]);
+    drive_all(rt, t, g, src)
 }
 
-// The table is read and judged, and the steps opened.
-fn load_drive(g: Framing, o: Options, events: i32, commands: i32, lines: u64) {
-    let mut text = io::large_buffer();
-    let got = load(2, &mut text);
-    if !got.ok {
-        return;
-    }
-    let steps = open_named(3);
-    if steps < 0 {
-        return;
-    }
-    let n = got.len;
-    let r = judge(got.fd, &text[..n]);
+// The files of a drive, but for its steps, and how many lines the commands have.
+#[derive(Drop)]
+struct Files<S> {
+    table: S,
+    events: Option<S>,
+    commands: S,
+    lines: u64,
+}
+
+// The table is judged, and the steps opened.
+fn drive_table<R: Runtime>(
+    rt: &R,
+    o: Options,
+    g: Framing,
+    files: Files<Source<R::File, R::Reader>>,
+    text: &[u8],
+) -> u8 {
+    let Files {
+        table,
+        events,
+        commands,
+        lines,
+    } = files;
+    let mut from = table;
+    let r = judge(&mut from, text);
     let v = r.verdict;
     let t = r.table;
-    if is_accepted(v) {
-        let src = Sources {
-            steps,
-            events,
-            options: o,
-        };
-        begin_drive(t, g, src, commands, lines);
-        return;
+    match open_named(rt, 3) {
+        None => WRONG,
+        Some(steps) => {
+            if is_accepted(v) {
+                let mut src = Sources {
+                    steps,
+                    events,
+                    commands,
+                    options: o,
+                };
+                return begin_drive(rt, t, g, &mut src, lines);
+            }
+            refuse_table(rt, Stream::Output, text, v)
+        }
     }
-    refuse_table(STDOUT_FILENO, &text[..n], v);
+}
+
+// The table is read.
+fn load_drive<R: Runtime>(
+    rt: &R,
+    o: Options,
+    g: Framing,
+    events: Option<Source<R::File, R::Reader>>,
+    commands: Source<R::File, R::Reader>,
+    lines: u64,
+) -> u8 {
+    let mut text = [0u8; 65536];
+    let got = load(rt, 2, &mut text);
+    let n = got.len;
+    match got.from {
+        None => WRONG,
+        Some(table) => {
+            let files = Files {
+                table,
+                events,
+                commands,
+                lines,
+            };
+            drive_table(rt, o, g, files, &text[..n])
+        }
+    }
 }
 
 // The commands are opened, and each of their lines must be a number.
-fn load_commands(g: Framing, o: Options, events: i32) {
-    let commands = open_named(4);
-    if commands < 0 {
-        return;
+fn load_commands<R: Runtime>(
+    rt: &R,
+    o: Options,
+    g: Framing,
+    events: Option<Source<R::File, R::Reader>>,
+) -> u8 {
+    match open_named(rt, 4) {
+        None => WRONG,
+        Some(source) => {
+            let mut commands = source;
+            let c = count_commands(&mut commands);
+            if !c.ok {
+                return end_wrong(rt, "a line of the commands is no number");
+            }
+            if !is_again(rt, &mut commands) {
+                return WRONG;
+            }
+            load_drive(rt, o, g, events, commands, c.lines)
+        }
     }
-    let c = count_commands(commands);
-    if !c.ok {
-        end_wrong(b"a line of the commands is no number");
-        return;
-    }
-    if !is_rewound(commands) {
-        return;
-    }
-    load_drive(g, o, events, commands, c.lines);
 }
 
-pub fn drive() {
-    if os::arg_count() < 5 {
-        end_wrong(b"a table, steps and commands are wanted");
-        return;
+pub fn drive(rt: &impl Runtime) -> u8 {
+    if count_words(rt) < 5 {
+        return end_wrong(rt, "a table, steps and commands are wanted");
     }
-    let o = take_options(DRIVE, 5);
+    let o = take_options(rt, DRIVE, 5);
     if !o.ok {
-        return;
+        return WRONG;
     }
-    if !input_once(o, 4) {
-        return;
+    if !input_once(rt, o, 4) {
+        return WRONG;
     }
-    let g = take_frame(o.frame);
+    let g = take_frame(rt, o.frame);
     if !g.ok {
-        return;
+        return WRONG;
     }
-    let events = take_events(o.events);
-    if events < -1 {
-        return;
+    let events = take_events(rt, o.events);
+    if !events.ok {
+        return WRONG;
     }
-    let framing = g.framing;
-    load_commands(framing, o, events);
+    load_commands(rt, o, g.framing, events.from)
 }

@@ -1,10 +1,12 @@
 // The frame of a call: its file, and whether it passes with the table.
 use super::files::open_named;
 use super::refusal::refuse;
-use super::say::end_wrong;
+use super::say::{Stream, end_wrong};
 use frame::{Frame, frame_passes};
 use input::{read_on, turns_left};
 use sentence::explain_frame;
+use std::io::Read;
+use std::rt::Runtime;
 use table::Table;
 use typed::{Windows, close_windows, new_windows, read_windows};
 
@@ -15,13 +17,13 @@ pub struct Framing {
     pub frame: Frame,
 }
 
-// All windows that a descriptor gives.
-fn read_frame(fd: i32) -> Windows {
-    let mut part = io::large_buffer();
+// All windows that a source gives.
+fn read_frame<S: Read>(from: &mut S) -> Windows {
+    let mut part = [0u8; 65536];
     let mut w = new_windows();
     let mut turns = 1000000000000u64;
     while 0 < turns {
-        let f = read_on(fd, &mut part, 0);
+        let f = read_on(from, &mut part, 0);
         let n = f.count;
         w = read_windows(w, &part[..n]);
         let more = if f.open { true } else { 0 < n };
@@ -46,7 +48,7 @@ fn unframed() -> Framing {
     }
 }
 
-pub fn take_frame(i: usize) -> Named {
+pub fn take_frame(rt: &impl Runtime, i: usize) -> Named {
     let none = unframed();
     if i == 0 {
         return Named {
@@ -54,17 +56,23 @@ pub fn take_frame(i: usize) -> Named {
             framing: none,
         };
     }
-    let fd = open_named(i);
-    if fd < 0 {
-        return Named {
+    match open_named(rt, i) {
+        None => Named {
             ok: false,
             framing: none,
-        };
+        },
+        Some(source) => {
+            let mut from = source;
+            name_frame(rt, read_frame(&mut from))
+        }
     }
-    let w = read_frame(fd);
+}
+
+// The frame of these windows, of which each line must be two numbers.
+fn name_frame(rt: &impl Eprint, w: Windows) -> Named {
     let frame = w.frame;
     if w.bad {
-        end_wrong(b"a line of the frame is not two numbers");
+        end_wrong(rt, "a line of the frame is not two numbers");
     }
     Named {
         ok: !w.bad,
@@ -76,7 +84,7 @@ pub fn take_frame(i: usize) -> Named {
 }
 
 // A frame that does not pass with the table: 19.
-pub fn refuse_frame(fd: i32, t: Table, g: Framing) -> bool {
+pub fn refuse_frame(rt: &(impl Print + Eprint), to: Stream, t: Table, g: Framing) -> bool {
     if !g.framed {
         return false;
     }
@@ -86,6 +94,6 @@ pub fn refuse_frame(fd: i32, t: Table, g: Framing) -> bool {
     }
     let mut out = [0u8; 512];
     let n = explain_frame(&mut out, f, t.domains);
-    refuse(fd, 19, &out, n);
+    refuse(rt, to, 19, &out, n);
     true
 }

@@ -2,6 +2,7 @@
 ghost use Rattle.std.specs.Prelude.{◌≤◌};
 
 use input::{read_on, turns_left};
+use std::io::Read;
 
 // The field so far: its characters up to two, whether the first is a zero, whether one is no digit, whether a CR stands behind it that
 // may be the first half of its end, and whether it has ended.
@@ -81,12 +82,12 @@ fn fed_all(r: Run, part: &[u8]) -> Run {
 }
 
 // The rest of the file, or of it what goes up to the field's end.
-fn fed_rest(r: Run, fd: i32) -> Run {
-    let mut part = io::large_buffer();
+fn fed_rest<S: Read>(r: Run, from: &mut S) -> Run {
+    let mut part = [0u8; 65536];
     let mut q = r;
     let mut turns = 1000000000000u64;
     while 0 < turns {
-        let f = read_on(fd, &mut part, 0);
+        let f = read_on(from, &mut part, 0);
         let n = f.count;
         q = fed_all(q, &part[..n]);
         let more = if f.open { true } else { 0 < n };
@@ -97,7 +98,7 @@ fn fed_rest(r: Run, fd: i32) -> Run {
 
 // The number of the field that starts at a place and runs over the end of the text, which goes on in the file: 1 where the file ends in
 // it, 2, or, so long, 3. A field that ends before is an empty one, or its wrong end.
-pub fn judge_long(fd: i32, text: &[u8], place: usize) -> u8 {
+pub fn judge_long<S: Read>(from: &mut S, text: &[u8], place: usize) -> u8 {
     if text.len() < place {
         return 1;
     }
@@ -112,7 +113,7 @@ pub fn judge_long(fd: i32, text: &[u8], place: usize) -> u8 {
     if here.ended {
         return 1;
     }
-    let r = fed_rest(here, fd);
+    let r = fed_rest(here, from);
     if !r.ended {
         return 1;
     }

@@ -30,68 +30,64 @@ use drive::drive;
 use help::help;
 use mending::mend_rows;
 use say::end_wrong;
+use std::env::Env;
+use std::process::ExitCode;
+use std::rt::Runtime;
 use words::is_word;
 
 // The calls on one table, by their number: check, bytes, sheet, plan; 4 for another word.
-fn table_call() -> u8 {
-    if is_word(1, b"check") {
+fn table_call(rt: &impl Env) -> u8 {
+    if is_word(rt, 1, b"check") {
         return 0;
     }
-    if is_word(1, b"bytes") {
+    if is_word(rt, 1, b"bytes") {
         return 1;
     }
-    if is_word(1, b"sheet") {
+    if is_word(rt, 1, b"sheet") {
         return 2;
     }
-    if is_word(1, b"plan") { 3 } else { 4 }
+    if is_word(rt, 1, b"plan") { 3 } else { 4 }
 }
 
-// The calls with steps; false for another word.
-fn step_call() -> bool {
-    if is_word(1, b"run") {
-        run(false);
-        return true;
+// The calls with steps, and those that are left.
+fn step_call(rt: &impl Runtime) -> u8 {
+    if is_word(rt, 1, b"run") {
+        return run(rt, false);
     }
-    if is_word(1, b"trace") {
-        run(true);
-        return true;
+    if is_word(rt, 1, b"trace") {
+        return run(rt, true);
     }
-    if is_word(1, b"drive") {
-        drive();
-        return true;
+    if is_word(rt, 1, b"drive") {
+        return drive(rt);
     }
-    false
+    other_call(rt)
 }
 
-// The other calls; false for another word.
-fn other_call() -> bool {
-    if is_word(1, b"mend") {
-        mend_rows();
-        return true;
+fn other_call(rt: &impl Runtime) -> u8 {
+    if is_word(rt, 1, b"mend") {
+        return mend_rows(rt);
     }
-    if is_word(1, b"clean") {
-        clean();
-        return true;
+    if is_word(rt, 1, b"clean") {
+        return clean(rt);
     }
-    if is_word(1, b"help") {
-        help();
-        return true;
+    if is_word(rt, 1, b"help") {
+        return help(rt);
     }
-    false
+    end_wrong(
+        rt,
+        "the first word is one of check, bytes, sheet, plan, mend, run, trace, clean, drive, help",
+    )
 }
 
-fn main() {
-    let call = table_call();
-    if call < 4 {
-        desk(call);
-        return;
+// The status of the call.
+fn call(rt: &impl Runtime) -> u8 {
+    let number = table_call(rt);
+    if number < 4 {
+        return desk(rt, number);
     }
-    if step_call() {
-        return;
-    }
-    if !other_call() {
-        end_wrong(
-            b"the first word is one of check, bytes, sheet, plan, mend, run, trace, clean, drive, help",
-        );
-    }
+    step_call(rt)
+}
+
+fn main(rt: HostRuntime) -> ExitCode {
+    ExitCode::from(call(&rt))
 }

@@ -2,6 +2,7 @@
 ghost use Rattle.std.specs.Prelude.{◌≤◌, length};
 
 use input::fill;
+use std::io::Read;
 
 // How many masks came, and how many bytes of one that is not whole.
 #[derive(Clone, Copy)]
@@ -26,13 +27,17 @@ fn decode(raw: &[u8], masks: &mut [u32]) {
 }
 
 // Puts the masks of the next n steps, 4,000 at most, at the front. Without a file of events they are empty.
-pub fn take_masks(fd: i32, masks: &mut [u32], n: usize) -> Came {
-    if fd < 0 {
-        return Came { masks: n, rest: 0 };
+pub fn take_masks<S: Read>(events: &mut Option<S>, masks: &mut [u32], n: usize) -> Came {
+    match events {
+        None => Came { masks: n, rest: 0 },
+        Some(from) => read_masks(from, masks, n),
     }
+}
+
+fn read_masks<S: Read>(from: &mut S, masks: &mut [u32], n: usize) -> Came {
     let mut raw = [0u8; 16000];
     let want = if n < 4000 { n * 4 } else { 16000 };
-    let f = fill(fd, &mut raw[..want]);
+    let f = fill(from, &mut raw[..want]);
     let got = f.count;
     decode(&raw[..got], masks);
     Came {
@@ -42,11 +47,15 @@ pub fn take_masks(fd: i32, masks: &mut [u32], n: usize) -> Came {
 }
 
 // Whether bytes are left behind the last mask that was taken.
-pub fn masks_left(fd: i32) -> bool {
-    if fd < 0 {
-        return false;
+pub fn masks_left<S: Read>(events: &mut Option<S>) -> bool {
+    match events {
+        None => false,
+        Some(from) => is_more(from),
     }
+}
+
+fn is_more<S: Read>(from: &mut S) -> bool {
     let mut one = [0u8; 1];
-    let f = fill(fd, &mut one);
+    let f = fill(from, &mut one);
     0 < f.count
 }

@@ -1,17 +1,40 @@
-// Writing: lines to standard output, why not to standard error, and to descriptor 3 the status that the script ends with.
-use libc::STDERR_FILENO;
+// Writing: lines to standard output, why not to standard error, and the status that the program ends with.
 use report::Printing;
+use std::io::{Error, Write};
+use std::{io, str};
 
-// The descriptor on which the script listens for the status.
-const STATUS_FILENO: i32 = 3;
+// The statuses: all is well, a refusal, wrong use.
+pub const FINE: u8 = 0;
 
-// Writes all of a text, or says why it could not; after that nothing more may be written.
-pub fn write(fd: i32, text: &[u8]) -> bool {
-    if io::write_all(fd, text) {
-        return true;
+pub const REFUSED: u8 = 1;
+
+pub const WRONG: u8 = 2;
+
+// Where a text goes.
+#[derive(Clone, Copy)]
+pub enum Stream {
+    Output,
+    Complaints,
+}
+
+// Writes a text to standard error; where that cannot be done, nobody is left to tell.
+pub fn complain(rt: &impl Eprint, text: &[u8]) -> bool {
+    match str::from_utf8(text) {
+        Ok(words) => eprint!(rt; "{words}").is_ok(),
+        Err(_) => false,
     }
-    os::fail(b"mikuzerao: writing");
-    false
+}
+
+// Writes all of a text to standard output, or says why it could not; after that nothing more may be written.
+pub fn write(rt: &(impl Print + Eprint), text: &[u8]) -> bool {
+    let mut to = io::writer(rt);
+    match to.write_all(text) {
+        Ok(_) => true,
+        Err(error) => {
+            let _ = eprintln!(rt; "mikuzerao: writing: {error}");
+            false
+        }
+    }
 }
 
 // The place behind what was printed; the same one where there was no room.
@@ -23,31 +46,33 @@ pub fn place_after(at: usize, p: Printing) -> usize {
 }
 
 // Writes a line: a template and its numbers.
-pub fn say(fd: i32, template: &[u8], numbers: &[u64]) -> bool {
+pub fn say_to(rt: &(impl Print + Eprint), to: Stream, template: &[u8], numbers: &[u64]) -> bool {
     let mut out = [0u8; 512];
     let n = place_after(0, phrase::fill(&mut out, 0, template, numbers));
-    if n <= 512 {
-        return write(fd, &out[..n]);
+    if 512 < n {
+        return false;
     }
-    false
+    match to {
+        Stream::Output => write(rt, &out[..n]),
+        Stream::Complaints => complain(rt, &out[..n]),
+    }
 }
 
-// 1: a refusal.
-pub fn end_refused() {
-    io::write_all(STATUS_FILENO, b"1");
+pub fn say(rt: &(impl Print + Eprint), template: &[u8], numbers: &[u64]) -> bool {
+    say_to(rt, Stream::Output, template, numbers)
 }
 
-// 2: wrong use, with what is wrong in one line.
-pub fn end_wrong(what: &[u8]) {
-    io::write_all(STDERR_FILENO, b"mikuzerao: ");
-    io::write_all(STDERR_FILENO, what);
-    io::write_all(STDERR_FILENO, b" (help says more)\n");
-    io::write_all(STATUS_FILENO, b"2");
+// Wrong use, with what is wrong in one line.
+pub fn end_wrong(rt: &impl Eprint, what: &str) -> u8 {
+    let _ = eprintln!(rt; "mikuzerao: {what} (help says more)");
+    WRONG
 }
 
-// 2: a file that cannot be read, with its name and why.
-pub fn end_unread(name: &[u8]) {
-    io::write_all(STDERR_FILENO, b"mikuzerao: ");
-    os::fail(name);
-    io::write_all(STATUS_FILENO, b"2");
+// A file that cannot be read, with its name and why, where that is known.
+pub fn end_unread(rt: &impl Eprint, name: &str, why: Option<Error>) -> u8 {
+    let _ = match why {
+        Some(error) => eprintln!(rt; "mikuzerao: {name}: {error}"),
+        None => eprintln!(rt; "mikuzerao: {name}: cannot be read"),
+    };
+    WRONG
 }

@@ -2,7 +2,6 @@
 ghost use Rattle.std.specs.Prelude.{◌≤◌, length};
 
 use super::say::{place_after, say, write};
-use libc::STDOUT_FILENO;
 use report::print_trace;
 use sight::{View, shown, shown_state};
 use state::{Progress, State};
@@ -76,9 +75,15 @@ fn put_lines(out: &mut [u8], clock: u32, trace: &[u8]) -> usize {
 }
 
 // The steps of a block, the first of which has this clock.
-pub fn show_steps(look: Look, out: &mut [u8], clock: u32, trace: &[u8]) -> bool {
+pub fn show_steps(
+    rt: &(impl Print + Eprint),
+    look: Look,
+    out: &mut [u8],
+    clock: u32,
+    trace: &[u8],
+) -> bool {
     if look.bytes {
-        return write(STDOUT_FILENO, trace);
+        return write(rt, trace);
     }
     let seen = look.seen;
     let n = if look.partial {
@@ -87,15 +92,15 @@ pub fn show_steps(look: Look, out: &mut [u8], clock: u32, trace: &[u8]) -> bool 
         put_lines(out, clock, trace)
     };
     if n <= out.len() {
-        return write(STDOUT_FILENO, &out[..n]);
+        return write(rt, &out[..n]);
     }
     false
 }
 
-fn say_progress(i: u8, p: Progress) {
+fn say_progress(rt: &(impl Print + Eprint), i: u8, p: Progress) {
     let finished = if p.finished { 1 } else { 0 };
     say(
-        STDOUT_FILENO,
+        rt,
         b"thread # rest # execution # finished # ran # since #\n",
         &[
             i as u64,
@@ -109,7 +114,7 @@ fn say_progress(i: u8, p: Progress) {
 }
 
 // A line for each thread of the state; of the threads that the domain may not see, zeros.
-pub fn show_state(look: Look, t: Table, s: State) {
+pub fn show_state(rt: &(impl Print + Eprint), look: Look, t: Table, s: State) {
     let whole = s.threads;
     let part = shown_state(t, s, look.domain);
     let some = part.threads;
@@ -120,7 +125,7 @@ pub fn show_state(look: Look, t: Table, s: State) {
             } else {
                 whole[i as usize]
             };
-            say_progress(i, p);
+            say_progress(rt, i, p);
         }
     }
 }

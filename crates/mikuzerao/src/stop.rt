@@ -1,6 +1,6 @@
 // The last line of a run that is refused, and its sentence.
 use super::refusal::refuse_step;
-use libc::{STDERR_FILENO, STDOUT_FILENO};
+use super::say::Stream;
 use sentence::{explain_event, explain_other, explain_short};
 use table::Table;
 
@@ -26,10 +26,25 @@ fn sentence_of(out: &mut [u8], t: Table, why: u8, clock: u32, had: Had) -> usize
     }
 }
 
+// Where the refusals of a call go: what a call prints in bytes, or as a table, is alone on standard output.
+pub fn refusals_to(bytes: bool) -> Stream {
+    if bytes {
+        Stream::Complaints
+    } else {
+        Stream::Output
+    }
+}
+
 // The refusal of a step; that of a trace goes to standard error.
-pub fn stop_at(bytes: bool, t: Table, why: u8, clock: u32, had: Had) {
+pub fn stop_at(
+    rt: &(impl Print + Eprint),
+    bytes: bool,
+    t: Table,
+    why: u8,
+    clock: u32,
+    had: Had,
+) -> u8 {
     let mut out = [0u8; 512];
     let n = sentence_of(&mut out, t, why, clock, had);
-    let fd = if bytes { STDERR_FILENO } else { STDOUT_FILENO };
-    refuse_step(fd, why, clock, &out, n);
+    refuse_step(rt, refusals_to(bytes), why, clock, &out, n)
 }

@@ -1,39 +1,38 @@
 // A table from a file, in bytes or in the comma form.
 ghost use Rattle.std.specs.Prelude.{◌≤◌, length};
 
-use super::files::{end_file, open_named};
+use super::files::{Source, end_file, open_named};
 use super::long::judge_long;
 use input::fill;
 use reader::{Reading, Verdict, refused_reading};
+use std::io::Read;
+use std::rt::Runtime;
 
-// What was read of a table's file, as much as a buffer holds.
-#[derive(Clone, Copy)]
-pub struct Loaded {
-    pub ok: bool,
-    pub fd: i32,
+// What was read of a table's file, as much as a buffer holds, and the file itself, which may go on.
+#[derive(Drop)]
+pub struct Loaded<S> {
+    pub from: Option<S>,
     pub len: usize,
 }
 
-// Reads the file that word i names; it is not ok after a line that says why not.
-pub fn load(i: usize, text: &mut [u8]) -> Loaded
+// Reads the file that word i names; there is none after a line that says why not.
+pub fn load<R: Runtime>(rt: &R, i: usize, text: &mut [u8]) -> Loaded<Source<R::File, R::Reader>>
     ensures { result.len ≤ length text.new }
 {
-    let fd = open_named(i);
-    if fd < 0 {
-        return Loaded {
-            ok: false,
-            fd,
-            len: 0,
-        };
-    }
-    let f = fill(fd, text);
-    if !f.whole {
-        end_file(i);
-    }
-    Loaded {
-        ok: f.whole,
-        fd,
-        len: f.count,
+    match open_named(rt, i) {
+        None => Loaded { from: None, len: 0 },
+        Some(source) => {
+            let mut from = source;
+            let f = fill(&mut from, text);
+            if f.whole {
+                return Loaded {
+                    from: Some(from),
+                    len: f.count,
+                };
+            }
+            end_file(rt, i, f.error);
+            Loaded { from: None, len: 0 }
+        }
     }
 }
 
@@ -46,7 +45,7 @@ pub fn is_sheet(text: &[u8]) -> bool {
 }
 
 // A verdict on the first 65,536 characters is that on all of them, unless a field runs over their end.
-fn lengthen(fd: i32, text: &[u8], r: Reading) -> Reading {
+fn lengthen<S: Read>(from: &mut S, text: &[u8], r: Reading) -> Reading {
     let v = r.verdict;
     match v {
         Verdict::Accepted => r,
@@ -54,7 +53,7 @@ fn lengthen(fd: i32, text: &[u8], r: Reading) -> Reading {
             if why != 1 {
                 return r;
             }
-            refused_reading(Verdict::Refused(judge_long(fd, text, place), place))
+            refused_reading(Verdict::Refused(judge_long(from, text, place), place))
         }
         Verdict::Intransitive {
             place: _,
@@ -66,7 +65,7 @@ fn lengthen(fd: i32, text: &[u8], r: Reading) -> Reading {
 }
 
 // The table of a file, or its refusal.
-pub fn judge(fd: i32, text: &[u8]) -> Reading {
+pub fn judge<S: Read>(from: &mut S, text: &[u8]) -> Reading {
     if !is_sheet(text) {
         return codec::read(text);
     }
@@ -74,5 +73,5 @@ pub fn judge(fd: i32, text: &[u8]) -> Reading {
     if text.len() < 65536 {
         return r;
     }
-    lengthen(fd, text, r)
+    lengthen(from, text, r)
 }

@@ -1,6 +1,5 @@
-use Prim.Native.Nat.{◌-◌, ◌≤◌}
+use Prim.Native.Nat.{◌≤◌}
 use lib.ListN.{length}
-use borrow.Author.Rules.{rules}
 use Rattle.sentence.proofs.place.digits_end.Given as goal
 
 abbrev pub invariant-loop-k : goal.invariant-loop-k
