@@ -12,7 +12,7 @@ mod play;
 mod turn;
 
 use input::{load, turns_left};
-use output::{complain, say_refused, say_threads};
+use output::{complain, complain_alone, say_refused, say_threads};
 use std::rt::Files;
 use turn::take_turn;
 
@@ -58,8 +58,9 @@ fn run_table(rt: &(impl Print + Eprint + Input + Files)) {
     let mut bytes = [0u8; 1024];
     let got = load(rt, &mut bytes);
     if !got.whole {
-        if let Some(error) = got.error {
-            complain(rt, "table.bin", error);
+        match got.error {
+            Some(error) => complain(rt, "table.bin", error),
+            None => complain_alone(rt, "table.bin"),
         }
         return;
     }

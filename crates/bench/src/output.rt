@@ -12,6 +12,11 @@ pub fn complain(rt: &impl Eprint, what: &str, error: io::Error) {
     let _ = eprintln!(rt; "bench: {what}: {error}");
 }
 
+// The same where no error tells why.
+pub fn complain_alone(rt: &impl Eprint, what: &str) {
+    let _ = eprintln!(rt; "bench: {what}");
+}
+
 // Writes text, or says on standard error why it could not; after that nothing more may be written.
 pub fn say(rt: &(impl Print + Eprint), text: &[u8]) -> bool {
     let mut to = io::writer(rt);

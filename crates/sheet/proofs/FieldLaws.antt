@@ -112,6 +112,11 @@ most-same : (v : ℕ) → at_most v ≤ 65535 → at_most v ≡ v
 most-same v h = by_test (ltb 65535 v) (λ t. absurd (omega (arith, h, most-above v (ltb-true _ _ t)))) (λ t. most_below v (ltb-false _ _ t))
 
 -- A zero before another character, by the length.
+pub padded-short : (f : List ℕ) → length f < 2 → zero_first f ≡ false
+padded-short [] h = refl
+padded-short (b ∷ []) h = refl
+padded-short (b ∷ c ∷ f) h = absurd (omega arith)
+
 pub padded_long : (f : List ℕ) → 2 ≤ length f → zero_first f ≡ eqb (get_or f 0 0) 48
 padded_long [] h = absurd (omega arith)
 padded_long (b ∷ []) h = absurd (omega arith)

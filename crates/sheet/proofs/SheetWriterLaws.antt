@@ -2,14 +2,14 @@
 use Prim.Native.Nat.{ℕ, ◌+◌, ◌≤◌, ◌<◌}
 use mathlib.Core.Path.{◌≡◌, ap, sym, ◌∙◌}
 use mathlib.Core.Logic.{◌↔◌}
-use mathlib.Core.Bool.{true}
+use mathlib.Core.Bool.{true, false}
 use mathlib.Core.List.{List, [], ◌∷◌}
 use native.Mathlib.Omega.{arith}
 use lib.ListN.{length}
 use lib.Dec.{leb}
 use borrow.Author.Tests.{le-leb, lt-leb, leb-true, leb-false}
 use Rattle.basis.specs.Tests.{pick}
-use Rattle.basis.specs.Told.{Told, answered}
+use Rattle.basis.specs.Told.{Told, answered, refused}
 use Rattle.basis.proofs.TestLaws.{by_test}
 use Rattle.basis.proofs.BackLaws.{exactly_by, row_here}
 use Rattle.table.specs.Legal.{legal}
@@ -22,7 +22,15 @@ use Rattle.sheet.specs.Text.{text}
 use Rattle.sheet.specs.SheetWriter.{sheet_writing, sheet_written, SheetNumbered, not-legal, no_room, writes}
 
 module _ (b : List ℕ) (at : ℕ) (t : Table) where
-  -- what is answered, and what the buffer then holds, where the text is put
+  -- what is answered, and what the buffer then holds, in the three cases
+  pub told-bad : legal t ≡ false → (refused 11 ≡ sheet_writing b at t) × (b ≡ sheet_written b at t)
+  unfolding sheet_writing sheet_written pick
+  told-bad e = (rw e, rw e)
+
+  pub told-short : legal t ≡ true → length b < at + length (text t) → (refused 16 ≡ sheet_writing b at t) × (b ≡ sheet_written b at t)
+  unfolding sheet_writing sheet_written pick
+  told-short e h = let l = lt-leb (at + length (text t)) (length b) h in (rw (e, l), rw (e, l))
+
   pub told_done : {b' : List ℕ} {k : ℕ} → legal t ≡ true → at + length (text t) ≤ length b → Put b at b' k (text t)
       → (answered (k ∷ []) ≡ sheet_writing b at t) × (b' ≡ sheet_written b at t)
   unfolding sheet_writing sheet_written pick
