@@ -1,6 +1,0 @@
--- `traces::all_named` is safe and ends.
-use Rattle.std.proofs.Common.{◌-◌, rules}
-use Rattle.traces.proofs.all_named.Given as goal
-
-abbrev pub invariant-loop-k : goal.invariant-loop-k
-invariant-loop-k l = Unit {0}
