@@ -5,3 +5,4 @@ pub mod ListLaws
 pub mod TurnLaws
 pub mod BackLaws
 pub mod SpacedLaws
+pub mod RefusalLaws

@@ -4,3 +4,4 @@ pub mod Told
 pub mod Ceil
 pub mod Turns
 pub mod Spaced
+pub mod Refusals

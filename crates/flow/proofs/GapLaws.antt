@@ -17,7 +17,7 @@ use Rattle.flow.proofs.FlowLaws.{covered_bit}
 use Rattle.basis.proofs.TestLaws.{refuted, fails, and_both}
 use Rattle.flow.specs.Flow.{flows}
 use Rattle.flow.specs.declared.Gap.{Gap}
-use Rattle.flow.specs.declared.Gap.TheVariants.{At, None}
+use Rattle.std.specs.Prelude.{Option, Some, None}
 use Rattle.flow.specs.Gap.{broken, Triple, gap_at, gap_by_c, gap_by_b, first_gap, gap_told, told, IsFirstGap, WithoutGap}
 
 pub gap_at-none : (rows : List ℕ) (a b c : ℕ) → broken rows a b c ≡ false → gap_at rows a b c ≡ nothing
@@ -103,30 +103,36 @@ gap-first rows n g r = go (first_gap rows n) refl
     go (found h) e = e ∙ ap found (same_gap rows n h g (gap-found rows n h e) r)
 
 -- The answer of the code has one reading.
-pub told_injective : (g h : Gap) → told g ≡ told h → g ≡ h
-told_injective (At a b c) (At x y z) e = let v = ap (λ (t : Told). t.values) e in cc
-told_injective (At a b c) None e = let v = ap (λ (t : Told). t.number) e in absurd (omega arith)
-told_injective None (At x y z) e = let v = ap (λ (t : Told). t.number) e in absurd (omega arith)
+pub told_injective : (g h : Option Gap) → told g ≡ told h → g ≡ h
+told_injective (Some g) (Some h) e =
+    let v = ap (λ (t : Told). t.values) e in
+    let ea : g.a ≡ h.a = cc in
+    let eb : g.b ≡ h.b = cc in
+    let ec : g.c ≡ h.c = cc in
+    let f : ◌≡◌ {A = Gap} (record { a = g.a; b = g.b; c = g.c }) (record { a = h.a; b = h.b; c = h.c }) = rw (ea, eb, ec) in
+    ap Some f
+told_injective (Some g) None e = let v = ap (λ (t : Told). t.number) e in absurd (omega arith)
+told_injective None (Some h) e = let v = ap (λ (t : Told). t.number) e in absurd (omega arith)
 told_injective None None e = refl
 
 -- No second answer fits `first_gap`.
-pub first_gap_unique : (rows : List ℕ) (n : ℕ) (g h : Gap) → told g ≡ gap_told (first_gap rows n) → told h ≡ gap_told (first_gap rows n) → g ≡ h
+pub first_gap_unique : (rows : List ℕ) (n : ℕ) (g h : Option Gap) → told g ≡ gap_told (first_gap rows n) → told h ≡ gap_told (first_gap rows n) → g ≡ h
 first_gap_unique rows n g h p q = told_injective g h (p ∙ sym q)
 
 -- What a caller learns from the answer of `first_gap`.
-abbrev pub sought : Gap → Sought Triple
-sought (At a b c) = found (record { a = a; b = b; c = c })
+abbrev pub sought : Option Gap → Sought Triple
+sought (Some g) = found (record { a = g.a; b = g.b; c = g.c })
 sought None = nothing
 
-pub gap-sought : (r : Gap) (s : Sought Triple) → told r ≡ gap_told s → s ≡ sought r
-gap-sought (At a b c) (found g) e =
+pub gap-sought : (r : Option Gap) (s : Sought Triple) → told r ≡ gap_told s → s ≡ sought r
+gap-sought (Some h) (found g) e =
     let v = ap (λ (t : Told). t.values) e in
-    let ea : a ≡ g.a = cc in
-    let eb : b ≡ g.b = cc in
-    let ec : c ≡ g.c = cc in
-    let f : ◌≡◌ {A = Triple} (record { a = g.a; b = g.b; c = g.c }) (record { a = a; b = b; c = c }) = rw (ea, eb, ec) in
+    let ea : h.a ≡ g.a = cc in
+    let eb : h.b ≡ g.b = cc in
+    let ec : h.c ≡ g.c = cc in
+    let f : ◌≡◌ {A = Triple} (record { a = g.a; b = g.b; c = g.c }) (record { a = h.a; b = h.b; c = h.c }) = rw (ea, eb, ec) in
     ap found f
-gap-sought (At a b c) nothing e = let v = ap (λ (t : Told). t.number) e in absurd (omega arith)
+gap-sought (Some h) nothing e = let v = ap (λ (t : Told). t.number) e in absurd (omega arith)
 gap-sought None (found g) e = let v = ap (λ (t : Told). t.number) e in absurd (omega arith)
 gap-sought None nothing e = refl
 

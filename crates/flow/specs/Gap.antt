@@ -1,11 +1,10 @@
 -- The first three domains that break transitivity.
-use Rattle.std.specs.Prelude.{ℕ, ◌<◌, ◌≡◌, List, [], ◌∷◌, Bool, true, false, not}
+use Rattle.std.specs.Prelude.{ℕ, ◌<◌, ◌≡◌, List, [], ◌∷◌, Bool, true, false, not, Option, Some, None}
 use Rattle.basis.specs.Tests.{pick, and}
 use Rattle.basis.specs.Search.{Sought, nothing, found, first}
 use Rattle.basis.specs.Told.{Told, answered}
 use Rattle.flow.specs.Flow.{flows}
 use Rattle.flow.specs.declared.Gap.{Gap}
-use Rattle.flow.specs.declared.Gap.TheVariants.{At, None}
 
 -- a flows to b, b to c, and a not to c.
 unfoldable pub broken : List ℕ → ℕ → ℕ → ℕ → Bool
@@ -37,8 +36,8 @@ gap_told nothing = answered []
 gap_told (found g) = record { number = 7; values = g.a ∷ g.b ∷ g.c ∷ [] }
 
 -- What an answer of the code tells.
-abbrev pub told : Gap → Told
-told (At a b c) = record { number = 7; values = a ∷ b ∷ c ∷ [] }
+abbrev pub told : Option Gap → Told
+told (Some g) = record { number = 7; values = g.a ∷ g.b ∷ g.c ∷ [] }
 told None = answered []
 
 -- The plain reading: this triple is broken, and none before it is.

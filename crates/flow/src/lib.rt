@@ -54,10 +54,11 @@ pub fn row_passes(domains: u8, i: u8, v: u16) -> bool
 }
 
 // The first domains that break transitivity: a flows to b, b to c, and a not to c.
-#[derive(Clone, Copy)]
-pub enum Gap {
-    At { a: u8, b: u8, c: u8 },
-    None,
+#[derive(Clone, Copy, Debug, PartialEq, Eq)]
+pub struct Gap {
+    pub a: u8,
+    pub b: u8,
+    pub c: u8,
 }
 
 // Whether a, b, c break transitivity.
@@ -90,16 +91,16 @@ fn is_whole(rows: [u16; 16], a: u8, b: u8) -> bool
 }
 
 // The first missing pair ends the search: the smallest a, then b, then c.
-pub fn first_gap(rows: [u16; 16], domains: u8) -> Gap
+pub fn first_gap(rows: [u16; 16], domains: u8) -> Option<Gap>
     ensures { told result ≡ gap_told (first_gap rows domains) }
 {
-    let mut found = Gap::None;
+    let mut found = None;
     'search: for a in 0..domains {
         for b in 0..domains {
             if !is_whole(rows, a, b) {
                 for c in 0..domains {
                     if breaks(rows, a, b, c) {
-                        found = Gap::At { a, b, c };
+                        found = Some(Gap { a, b, c });
                         break 'search;
                     }
                 }

@@ -1,7 +1,7 @@
 -- `flow::first_gap` meets its contract: each of the three loops has found nothing so far in its own search, `gap_by_c`, `gap_by_b` and `first_gap`.
 use Rattle.basis.specs.Search.{nothing, first}
 use Rattle.flow.specs.Gap.{gap_at, gap_by_c, gap_by_b}
-use Rattle.flow.specs.declared.Gap.TheVariants.{None}
+use Rattle.std.specs.Prelude.{None}
 use mathlib.Core.Path.{◌≡◌}
 use Prim.Native.Nat.{◌≤◌, ◌-◌}
 use Rattle.flow.proofs.first_gap.Given as goal
