@@ -1,7 +1,7 @@
 -- Laws of refusals: what a refusal tells is its own, and what a call tells whose values tell an answer apart is its answer's alone.
 use Rattle.std.proofs.Common.{ℕ, ◌-◌, ◌≡◌, ◌<◌, List, [], ◌∷◌, get_or, Result, Ok, Err, refl, sym, ap, ◌∙◌, arith}
 use Rattle.basis.specs.Told.{Told}
-use Rattle.basis.specs.Refusals.{number, values, refused_by, told_by}
+use Rattle.basis.specs.Refusals.{number, values, refused_by, told_by, told_done, told_number, given_or}
 use Rattle.basis.specs.declared.refusal.Refusal.{Refusal}
 use Rattle.basis.specs.declared.refusal.Refusal.TheVariants.{EndsEarly, NotShortest, TooLarge, Version, Count, Row, Intransitive, Field, PriorityTaken, Extra, NotLegal, NotFitting, StepBytes, LastClock, Missing, NoRoom, EventMask, Frame, Actuator, TraceByte}
 
@@ -71,3 +71,14 @@ told-apart vs (Ok a) (Ok b) f e = ap Ok (f a b (ap (λ (t : Told). t.values) e))
 told-apart vs (Ok a) (Err why) f e = absurd (zero-not (number-positive why) (ap (λ (t : Told). t.number) e))
 told-apart vs (Err why) (Ok b) f e = absurd (zero-not (number-positive why) (sym (ap (λ (t : Told). t.number) e)))
 told-apart vs (Err why) (Err other) f e = ap Err (refused-apart why other e)
+
+-- An answer that is a number is told apart,
+pub number-apart : (r q : Result ℕ Refusal) → told_number r ≡ told_number q → r ≡ q
+number-apart r q e = told-apart (λ n. n ∷ []) r q (λ a b f. ap (λ (xs : List ℕ). get_or xs 0 0) f) e
+
+-- and one that is given beside.
+pub done-apart : {A : Type 0} (z : A) (r q : Result A Refusal) → told_done r ≡ told_done q → given_or z r ≡ given_or z q → r ≡ q
+done-apart z (Ok a) (Ok b) e f = ap Ok f
+done-apart z (Ok a) (Err why) e f = absurd (zero-not (number-positive why) (ap (λ (t : Told). t.number) e))
+done-apart z (Err why) (Ok b) e f = absurd (zero-not (number-positive why) (sym (ap (λ (t : Told). t.number) e)))
+done-apart z (Err why) (Err other) e f = ap Err (refused-apart why other e)

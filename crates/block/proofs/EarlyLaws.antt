@@ -12,7 +12,7 @@ use Rattle.table.specs.Threads.{thread}
 use Rattle.table.specs.Mark.{is_set}
 use Rattle.table.specs.declared.Table.{Table}
 use Rattle.table.specs.declared.Thread.{Thread}
-use Rattle.table.specs.declared.Mark.{Mark}
+use Rattle.table.specs.Mark.{Mark}
 use Rattle.state.specs.State.{no_progress, longest_since, progress, put, each_thread}
 use Rattle.state.specs.Release.{has_event, released, release}
 use Rattle.state.specs.Methods.{paid, pay, done, finish, counted, count, aged, tick}

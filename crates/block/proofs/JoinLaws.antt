@@ -14,7 +14,7 @@ use Rattle.basis.specs.Search.{listed}
 use Rattle.basis.specs.Turns.{in_turn}
 use Rattle.basis.proofs.TurnLaws.{turns_join, after_join}
 use Rattle.table.specs.Mark.{marks_of}
-use Rattle.table.specs.declared.Mark.{Mark}
+use Rattle.table.specs.Mark.{Mark}
 use Rattle.table.specs.declared.Table.{Table}
 use Rattle.state.specs.declared.State.{State}
 use Rattle.frame.specs.Mode.{Mode, threads_at}

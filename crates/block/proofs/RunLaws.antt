@@ -14,7 +14,7 @@ use Rattle.basis.specs.Turns.{in_turn, after}
 use Rattle.basis.proofs.TestLaws.{and_both, by_test}
 use Rattle.table.specs.Legal.{legal}
 use Rattle.table.specs.Mark.{marks_of}
-use Rattle.table.specs.declared.Mark.{Mark}
+use Rattle.table.specs.Mark.{Mark}
 use Rattle.table.specs.declared.Table.{Table}
 use Rattle.state.specs.State.{last_clock, fits}
 use Rattle.state.specs.declared.State.{State}

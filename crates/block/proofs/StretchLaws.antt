@@ -13,7 +13,7 @@ use Rattle.basis.proofs.SearchLaws.{length-listed}
 use Rattle.basis.proofs.TurnLaws.{turns-length, turns_join, after_join}
 use Rattle.table.specs.Threads.{thread}
 use Rattle.table.specs.declared.Table.{Table}
-use Rattle.table.specs.declared.Mark.{Mark}
+use Rattle.table.specs.Mark.{Mark}
 use Rattle.state.specs.State.{last_clock, each_thread, Fits}
 use Rattle.state.specs.Release.{has_event, release}
 use Rattle.state.specs.Methods.{tick}

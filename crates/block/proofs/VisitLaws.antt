@@ -11,7 +11,7 @@ use lib.Seq.{slice, slice_empty}
 use lib.Dec.{eqb, ltb}
 use Rattle.basis.specs.Tests.{pick, and}
 use Rattle.basis.proofs.TestLaws.{by_test}
-use Rattle.table.specs.declared.Mark.{Mark}
+use Rattle.table.specs.Mark.{Mark}
 use Rattle.table.specs.Mark.{is_set}
 use Rattle.state.specs.State.{with_finished, progress, put}
 use Rattle.state.specs.Methods.{paid, pay, finish, counted, count}

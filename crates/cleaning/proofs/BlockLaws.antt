@@ -9,7 +9,7 @@ use lib.Dec.{ltb, leb}
 use Rattle.basis.specs.Tests.{and}
 use Rattle.basis.specs.Turns.{in_turn}
 use Rattle.basis.proofs.TestLaws.{both_ways, and-of, or-true}
-use Rattle.table.specs.declared.Mark.{Mark}
+use Rattle.table.specs.Mark.{Mark}
 use Rattle.table.specs.declared.Table.{Table}
 use Rattle.state.specs.Release.{release}
 use Rattle.state.specs.declared.State.{State}

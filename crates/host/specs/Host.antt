@@ -4,7 +4,7 @@ use Rattle.basis.specs.Tests.{pick}
 use Rattle.basis.specs.Told.{Told}
 use Rattle.basis.specs.Search.{nothing}
 use Rattle.table.specs.Mark.{mark, marks_given}
-use Rattle.table.specs.declared.Mark.{Mark}
+use Rattle.table.specs.Mark.{Mark}
 use Rattle.table.specs.declared.Table.{Table}
 use Rattle.reader.specs.Reader.{reading}
 use Rattle.admission.specs.Bounded.{bounding, NoBound}

@@ -17,7 +17,7 @@ use Rattle.table.specs.Mark.{marks_of}
 use Rattle.table.specs.declared.Table.{Table}
 use Rattle.table.proofs.MarkLaws.{set_exactly}
 use Rattle.table.proofs.LegalLaws.{legal_sound, legal_small}
-use Rattle.table.specs.declared.Mark.{Mark}
+use Rattle.table.specs.Mark.{Mark}
 use Rattle.state.specs.State.{fresh, last_clock, Fits}
 use Rattle.state.specs.Release.{release}
 use Rattle.state.specs.declared.State.{State}

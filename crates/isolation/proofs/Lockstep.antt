@@ -13,7 +13,7 @@ use Rattle.table.specs.Threads.{thread}
 use Rattle.table.specs.Mark.{marked, is_set}
 use Rattle.table.specs.Legal.{Legal}
 use Rattle.table.specs.declared.Table.{Table}
-use Rattle.table.specs.declared.Mark.{Mark}
+use Rattle.table.specs.Mark.{Mark}
 use Rattle.state.specs.State.{progress}
 use Rattle.state.specs.Methods.{done, counted, paid, pay, finish, count}
 use Rattle.state.specs.declared.Progress.{Progress}

@@ -8,7 +8,7 @@ use Rattle.basis.specs.Told.{Told}
 use Rattle.flow.specs.Gap.{first_gap, gap_told}
 use Rattle.table.specs.Legal.{legal}
 use Rattle.table.specs.Mark.{marking, marks_given}
-use Rattle.table.specs.declared.Mark.{Mark}
+use Rattle.table.specs.Mark.{Mark}
 use Rattle.table.specs.declared.Table.{Table}
 use Rattle.numeral.specs.Number.{number_at, told as number-told}
 use Rattle.reader.specs.Reader.{reading}

@@ -8,7 +8,7 @@ use Rattle.basis.specs.Told.{Told, answered, refused}
 use Rattle.basis.specs.Turns.{in_turn}
 use Rattle.table.specs.Threads.{thread}
 use Rattle.table.specs.Mark.{seen_by, hidden_below, protects, mark, marks_of, is_set}
-use Rattle.table.specs.declared.Mark.{Mark}
+use Rattle.table.specs.Mark.{Mark}
 use Rattle.table.specs.declared.Table.{Table}
 use Rattle.table.specs.declared.Thread.{Thread}
 use Rattle.example.specs.Example.{table_of, task, event, in_version}

@@ -13,12 +13,11 @@ use Rattle.basis.proofs.TestLaws.{by_test, refuted, fails, joined, some-found, s
 use Rattle.basis.proofs.SearchLaws.{first_hit, first-nothing, first-all, first_found, length-listed, listed_at, listed_past}
 use Rattle.basis.proofs.ListLaws.{all_alike}
 use Rattle.table.specs.Legal.{legal}
-use Rattle.table.specs.Mark.{seen_by, hidden_below, protects, mark, marked, marks_of, is_set, told, marking, marks_given, Barred, Leaks, Protects}
-use Rattle.table.specs.declared.Mark.{Mark}
+use Rattle.table.specs.Mark.{Mark, given, seen_by, hidden_below, protects, mark, marked, marks_of, is_set, told, marking, marks_given, Barred, Leaks, Protects}
 use Rattle.table.specs.declared.Table.{Table}
-use Rattle.table.specs.declared.Marking.{Marking}
-use Rattle.table.specs.declared.Marking.TheVariants.{Done, NotLegal}
-use Rattle.table.specs.declared.Marked.{Marked}
+use Rattle.basis.specs.declared.refusal.Refusal.{Refusal}
+use Rattle.basis.proofs.RefusalLaws.{done-apart}
+use Rattle.std.specs.Prelude.{List, Option, Some, None, Result, is_some, unwrap_or}
 use Rattle.table.proofs.LegalLaws.{legal_small}
 
 -- What a search by a test found, and what it passed by.
@@ -85,7 +84,7 @@ pub mark_complete : (t : Table) (i : ℕ) → Leaks t i → marked t i ≡ true
 unfolding marked
 mark_complete t i l = go (protects t i) refl
   where
-    go : (s : Sought ℕ) → protects t i ≡ s → (mark s).set ≡ true
+    go : (s : Sought ℕ) → protects t i ≡ s → is_some (mark s) ≡ true
     go nothing e = absurd ((protects-none t i).0 e l)
     go (found j) e = refl
 
@@ -93,7 +92,7 @@ pub mark_sound : (t : Table) (i : ℕ) → marked t i ≡ true → Leaks t i
 unfolding marked
 mark_sound t i m = go (protects t i) refl m
   where
-    go : (s : Sought ℕ) → protects t i ≡ s → (mark s).set ≡ true → Leaks t i
+    go : (s : Sought ℕ) → protects t i ≡ s → is_some (mark s) ≡ true → Leaks t i
     go nothing e m = absurd (false≢true m)
     go (found j) e m =
         let p : Protects t i j = protects-given t i j e in
@@ -109,12 +108,12 @@ marked-some t i =
     let f : Passing (hidden_below t i) t.count = some-found _ t.count h in
     refuted (mark_complete t i (record { thread_below = f.number; in_table = f.below; barred = hidden_says t i _ f.passes })) e)))
 
--- A mark that is none is (false, 0), and one that protects thread j is (true, j).
-pub mark-none : ((mark nothing).set ≡ false) × ((mark nothing).thread ≡ 0)
-mark-none = (refl, refl)
+-- A mark that is none has no thread, and one that protects thread j has it.
+pub mark-none : mark nothing ≡ None
+mark-none = refl
 
-pub mark-some : (j : ℕ) → ((mark (found j)).set ≡ true) × ((mark (found j)).thread ≡ j)
-mark-some j = (refl, refl)
+pub mark-some : (j : ℕ) → mark (found j) ≡ Some j
+mark-some j = refl
 
 -- The mark of each thread stands at its place.
 pub marks_at : (t : Table) (i : ℕ) → i < t.count → get_or (marks_of t) i (mark nothing) ≡ mark (protects t i)
@@ -123,7 +122,7 @@ marks_at t i h = listed_at (λ k. mark (protects t k)) t.count i (replicate (32 
 
 pub set_exactly : (t : Table) (i : ℕ) → i < t.count → is_set (marks_of t) i ≡ marked t i
 unfolding marked
-set_exactly t i h = ap (λ (m : Mark). m.set) (marks_at t i h)
+set_exactly t i h = ap (λ (m : Mark). is_some m) (marks_at t i h)
 
 pub marks_given-at : (t : Table) (i : ℕ) → legal t ≡ true → i < t.count → get_or (marks_given t) i (mark nothing) ≡ mark (protects t i)
 unfolding marks_given pick
@@ -133,13 +132,13 @@ marks_given-at t i e h = rw e (marks_at t i h)
 pub marks_exactly : (t : Table) (i : ℕ) → legal t ≡ true → i < t.count → (is_set (marks_given t) i ≡ true) ↔ Leaks t i
 unfolding marked
 marks_exactly t i e h =
-    let q : is_set (marks_given t) i ≡ marked t i = ap (λ (m : Mark). m.set) (marks_given-at t i e h) in
+    let q : is_set (marks_given t) i ≡ marked t i = ap (λ (m : Mark). is_some m) (marks_given-at t i e h) in
     (λ m. mark_sound t i (sym q ∙ m), λ l. q ∙ mark_complete t i l)
 
 -- and with a thread exactly when that is whom the mark protects.
 mark-found : (s : Sought ℕ) (j : ℕ) → mark s ≡ mark (found j) → s ≡ found j
-mark-found nothing j e = absurd (false≢true (ap (λ (m : Mark). m.set) e))
-mark-found (found k) j e = ap found (ap (λ (m : Mark). m.thread) e)
+mark-found nothing j e = absurd (false≢true (ap (λ (m : Mark). is_some m) e))
+mark-found (found k) j e = ap found (ap (λ (m : Mark). unwrap_or m 0) e)
 
 pub marks_name : (t : Table) (i j : ℕ) → legal t ≡ true → i < t.count → (get_or (marks_given t) i (mark nothing) ≡ mark (found j)) ↔ Protects t i j
 marks_name t i j e h = (
@@ -149,7 +148,7 @@ marks_name t i j e h = (
 
 mark-nothing : (s : Sought ℕ) → mark s ≡ mark nothing → s ≡ nothing
 mark-nothing nothing e = refl
-mark-nothing (found k) e = absurd (false≢true (sym (ap (λ (m : Mark). m.set) e)))
+mark-nothing (found k) e = absurd (false≢true (sym (ap (λ (m : Mark). is_some m) e)))
 
 -- It is none exactly when the thread does not leak.
 pub marks_none : (t : Table) (i : ℕ) → legal t ≡ true → i < t.count → (get_or (marks_given t) i (mark nothing) ≡ mark nothing) ↔ (Leaks t i → ⊥)
@@ -177,17 +176,7 @@ marks_length t =
     ∙ rw (length-listed t.count (λ k. mark (protects t k)), length-replicate (32 - t.count) (mark nothing)) (omega (arith, legal_small t e))))
     (λ e. rw e)
 
-pub told_injective : (a b : Marking) → told a ≡ told b → a ≡ b
-told_injective Done Done e = refl
-told_injective Done NotLegal e = let n = ap (λ (t : Told). t.number) e in absurd (omega arith)
-told_injective NotLegal Done e = let n = ap (λ (t : Told). t.number) e in absurd (omega arith)
-told_injective NotLegal NotLegal e = refl
-
 -- No second answer fits `marks`.
-pub marks_unique : (t : Table) (r q : Marked) → (told r.answer ≡ marking t) × (r.marks ≡ marks_given t)
-    → (told q.answer ≡ marking t) × (q.marks ≡ marks_given t) → r ≡ q
-marks_unique t r q e f =
-    let a : r.answer ≡ q.answer = told_injective _ _ (e.0 ∙ sym f.0) in
-    let m : r.marks ≡ q.marks = e.1 ∙ sym f.1 in
-    let h : ◌≡◌ {A = Marked} (record { answer = r.answer; marks = r.marks }) (record { answer = q.answer; marks = q.marks }) = rw (a, m) in
-    h
+pub marks_unique : (t : Table) (r q : Result (List Mark) Refusal) → (told r ≡ marking t) × (given r ≡ marks_given t)
+    → (told q ≡ marking t) × (given q ≡ marks_given t) → r ≡ q
+marks_unique t r q e f = done-apart _ r q (e.0 ∙ sym f.0) (e.1 ∙ sym f.1)

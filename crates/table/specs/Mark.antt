@@ -1,16 +1,15 @@
 -- The leak mark of a thread names whom it protects: the first thread in table order that has a lower priority and a domain that its own
 -- may not flow to. A thread is marked exactly when there is one.
-use Rattle.std.specs.Prelude.{ℕ, ◌-◌, ◌<◌, ◌≡◌, List, [], ◌++◌, Bool, true, false, not, replicate, get_or, ltb}
+use Rattle.std.specs.Prelude.{ℕ, ◌-◌, ◌<◌, ◌≡◌, List, [], ◌++◌, Bool, true, false, not, replicate, get_or, ltb, Option, Some, None, Result, is_some}
 use Rattle.basis.specs.Tests.{pick, and}
 use Rattle.basis.specs.Search.{Sought, nothing, found, first, listed}
 use Rattle.basis.specs.Told.{Told, answered, refused}
+use Rattle.basis.specs.Refusals.{told_done, given_or}
 use Rattle.flow.specs.Flow.{flows}
 use Rattle.table.specs.Threads.{thread}
 use Rattle.table.specs.Legal.{legal}
-use Rattle.table.specs.declared.Mark.{Mark}
 use Rattle.table.specs.declared.Table.{Table}
-use Rattle.table.specs.declared.Marking.{Marking}
-use Rattle.table.specs.declared.Marking.TheVariants.{Done, NotLegal}
+use Rattle.basis.specs.declared.refusal.Refusal.{Refusal}
 
 -- Thread i's domain may flow to domain d.
 unfoldable pub seen_by : Table → ℕ → ℕ → Bool
@@ -25,14 +24,18 @@ hidden_below t i j =
 unfoldable pub protects : Table → ℕ → Sought ℕ
 protects t i = first t.count (λ j. pick (hidden_below t i j) (found j) nothing)
 
+-- A leak mark: the thread that it protects, where there is one.
+abbrev pub Mark : Type 0
+Mark = Option ℕ
+
 -- A mark answers with a thread, or that there is none.
 abbrev pub mark : Sought ℕ → Mark
-mark nothing = record { set = false; thread = 0 }
-mark (found j) = record { set = true; thread = j }
+mark nothing = None
+mark (found j) = Some j
 
 -- A thread is marked if its mark answers with a thread.
 unfoldable pub marked : Table → ℕ → Bool
-marked t i = (mark (protects t i)).set
+marked t i = is_some (mark (protects t i))
 
 -- The mark of each thread; a place past the last thread has none.
 unfoldable pub marks_of : Table → List Mark
@@ -40,12 +43,11 @@ marks_of t = listed t.count (λ i. mark (protects t i)) ++ replicate (32 - t.cou
 
 -- Of a list of marks, whether the one at place i is set.
 abbrev pub is_set : List Mark → ℕ → Bool
-is_set m i = (get_or m i (mark nothing)).set
+is_set m i = is_some (get_or m i (mark nothing))
 
 -- Document 01's number: 11 where the table is not legal.
-abbrev pub told : Marking → Told
-told Done = answered []
-told NotLegal = refused 11
+abbrev pub told : Result (List Mark) Refusal → Told
+told r = told_done r
 
 unfoldable pub marking : Table → Told
 marking t = pick (legal t) (answered []) (refused 11)
@@ -53,6 +55,10 @@ marking t = pick (legal t) (answered []) (refused 11)
 -- What `marks` gives beside its answer: all unmarked on a refusal.
 unfoldable pub marks_given : Table → List Mark
 marks_given t = pick (legal t) (marks_of t) (replicate 32 (mark nothing))
+
+-- What an answer of the code gives beside.
+abbrev pub given : Result (List Mark) Refusal → List Mark
+given r = given_or (replicate 32 (mark nothing)) r
 
 -- The plain reading of whom a mark is for: thread j is below thread i in priority, and i's domain may not flow to j's.
 pub record Barred (t : Table) (i j : ℕ) : Type 0 where

@@ -5,7 +5,7 @@ ghost use Rattle.table.specs.Legal.{row_legal, thread_ok, thread_zero, taken, pl
 
 use super::ranges::{field_ranges, fields, in_range};
 use super::{FIELDS, Range, Table, Thread};
-use flow::{Gap, first_gap, row_passes};
+use flow::{first_gap, row_passes};
 
 // Whether one of the first n threads has the priority p.
 pub fn is_taken(threads: [Thread; 32], n: u8, p: u16) -> bool
@@ -115,9 +115,8 @@ pub fn table_passes(t: Table) -> bool
     if !rows_are_legal(rows, domains) {
         return false;
     }
-    let gap = first_gap(rows, domains);
-    match gap {
-        Gap::At { a: _, b: _, c: _ } => false,
-        Gap::None => places_are_legal(t),
+    if first_gap(rows, domains).is_some() {
+        return false;
     }
+    places_are_legal(t)
 }

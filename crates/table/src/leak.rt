@@ -1,7 +1,6 @@
 // The leak marks, from the table alone.
 ghost use Rattle.std.specs.Prelude.{◌≡◌, not, ◌/◌, ◌%◌, ◌^◌, ◌≤◌, ◌<◌, eqb, ltb};
 ghost use Rattle.basis.specs.Tests.{and};
-ghost use Rattle.basis.specs.Search.{nothing};
 ghost use Rattle.table.specs.Mark.{protects, mark, marks_of};
 
 use super::{Mark, Table, Thread};
@@ -17,16 +16,6 @@ fn hides(row: u16, a: Thread, b: Thread) -> bool
     !bit(row, b.domain)
 }
 
-// No mark: nobody needs one.
-pub fn no_mark() -> Mark
-    ensures { result ≡ mark nothing }
-{
-    Mark {
-        set: false,
-        thread: 0,
-    }
-}
-
 // The mark of thread i, with the first thread that needs it.
 fn mark_of(t: Table, i: u8) -> Mark
     requires { (i < 32) × (t.count ≤ 32) }
@@ -38,13 +27,10 @@ fn mark_of(t: Table, i: u8) -> Mark
     for j in 0..t.count {
         let b = t.threads[j as usize];
         if hides(flow, a, b) {
-            return Mark {
-                set: true,
-                thread: j,
-            };
+            return Some(j);
         }
     }
-    no_mark()
+    None
 }
 
 // The mark of each thread of a table that is known to be legal.
@@ -52,8 +38,7 @@ pub fn mark_all(t: Table) -> [Mark; 32]
     requires { t.count ≤ 32 }
     ensures { result ≡ marks_of t }
 {
-    let none = no_mark();
-    let mut out = [none; 32];
+    let mut out = [None; 32];
     for i in 0..t.count {
         out[i as usize] = mark_of(t, i);
     }

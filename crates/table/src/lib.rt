@@ -3,20 +3,22 @@
 
 ghost use Rattle.std.specs.Prelude.{◌≡◌};
 ghost use Rattle.table.specs.Legal.{legal as is_legal};
-ghost use Rattle.table.specs.Mark.{told, marking, marks_given};
+ghost use Rattle.table.specs.Mark.{told, given, marking, marks_given};
+
+use basis::Refusal;
 
 mod judge;
 mod leak;
 mod ranges;
 
 pub use judge::is_taken;
-pub use leak::{mark_all, no_mark};
+pub use leak::mark_all;
 pub use ranges::{field_range, fields, fields_in, in_range, make_thread, no_thread};
 
 // How many fields a thread has.
 pub const FIELDS: usize = 8;
 
-#[derive(Clone, Copy)]
+#[derive(Clone, Copy, Debug, PartialEq, Eq)]
 pub struct Thread {
     pub domain: u8,
     pub priority: u8,
@@ -29,7 +31,7 @@ pub struct Thread {
     pub kind: u8,
 }
 
-#[derive(Clone, Copy)]
+#[derive(Clone, Copy, Debug, PartialEq, Eq)]
 pub struct Table {
     pub version: u8,
     pub domains: u8,
@@ -39,30 +41,14 @@ pub struct Table {
 }
 
 // From low up to below a limit.
-#[derive(Clone, Copy)]
+#[derive(Clone, Copy, Debug, PartialEq, Eq)]
 pub struct Range {
     pub low: u16,
     pub below: u32,
 }
 
-// A leak mark: whether it is set, and the first thread that it protects, 0 where it is not.
-#[derive(Clone, Copy)]
-pub struct Mark {
-    pub set: bool,
-    pub thread: u8,
-}
-
-#[derive(Clone, Copy)]
-pub enum Marking {
-    Done,
-    NotLegal,
-}
-
-#[derive(Clone, Copy)]
-pub struct Marked {
-    pub answer: Marking,
-    pub marks: [Mark; 32],
-}
+// A leak mark: the first thread that it protects, where there is one.
+pub type Mark = Option<u8>;
 
 // Whether a table is legal.
 pub fn legal(t: Table) -> bool
@@ -71,20 +57,13 @@ pub fn legal(t: Table) -> bool
     judge::table_passes(t)
 }
 
-// The leak mark of each thread, with the thread that it protects.
+// The leak mark of each thread; refuses with 11.
 #[tactic(auto, using(crate::proofs::LegalLaws::legal_small), unfolding(crate::specs::Mark::marking, crate::specs::Mark::marks_given, basis::specs::Tests::pick))]
-pub fn marks(t: Table) -> Marked
-    ensures { (told result.answer ≡ marking t) × (result.marks ≡ marks_given t) }
+pub fn marks(t: Table) -> Result<[Mark; 32], Refusal>
+    ensures { (told result ≡ marking t) × (given result ≡ marks_given t) }
 {
     if !legal(t) {
-        let none = no_mark();
-        return Marked {
-            answer: Marking::NotLegal,
-            marks: [none; 32],
-        };
+        return Err(Refusal::NotLegal);
     }
-    Marked {
-        answer: Marking::Done,
-        marks: mark_all(t),
-    }
+    Ok(mark_all(t))
 }

@@ -16,7 +16,7 @@ use Rattle.table.specs.Threads.{thread}
 use Rattle.table.specs.Legal.{Legal}
 use Rattle.table.specs.Mark.{marked, marks_of, is_set}
 use Rattle.table.specs.declared.Table.{Table}
-use Rattle.table.specs.declared.Mark.{Mark}
+use Rattle.table.specs.Mark.{Mark}
 use Rattle.state.specs.State.{no_progress, progress, put, Fits}
 use Rattle.state.specs.Release.{release}
 use Rattle.state.specs.Methods.{paid, pay, done, finish, count, tick}

@@ -14,7 +14,7 @@ use Rattle.basis.proofs.TestLaws.{both_ways, either, by_test}
 use Rattle.table.specs.Threads.{thread}
 use Rattle.table.specs.declared.Table.{Table}
 use Rattle.table.specs.declared.Thread.{Thread}
-use Rattle.table.specs.declared.Mark.{Mark}
+use Rattle.table.specs.Mark.{Mark}
 use Rattle.state.specs.State.{progress, put, Fits}
 use Rattle.state.specs.Release.{release}
 use Rattle.state.specs.Methods.{paid, pay, done, finish, counted, count, aged, tick}

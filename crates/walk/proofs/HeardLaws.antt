@@ -7,7 +7,7 @@ use lib.ListN.{get_or}
 use lib.Dec.{eqb}
 use Rattle.basis.specs.Tests.{pick}
 use Rattle.basis.proofs.TestLaws.{both_ways}
-use Rattle.table.specs.declared.Mark.{Mark}
+use Rattle.table.specs.Mark.{Mark}
 use Rattle.state.specs.declared.State.{State}
 use Rattle.walk.specs.declared.Answer.TheVariants.{Idle}
 use Rattle.state.specs.State.{progress}

@@ -4,7 +4,7 @@ use mathlib.Core.Path.{◌≡◌, refl, sym, ◌∙◌}
 use mathlib.Core.List.{List, [], ◌∷◌}
 use lib.ListN.{get_or}
 use Rattle.table.specs.Mark.{marked, marks_of, is_set}
-use Rattle.table.specs.declared.Mark.{Mark}
+use Rattle.table.specs.Mark.{Mark}
 use Rattle.table.specs.declared.Table.{Table}
 use Rattle.table.proofs.MarkLaws.{set_exactly}
 use Rattle.state.specs.Release.{release}

@@ -7,7 +7,7 @@ use mathlib.Core.Logic.{inl, inr}
 use lib.ListN.{get_or}
 use Rattle.basis.proofs.TestLaws.{both_ways}
 use Rattle.table.specs.declared.Table.{Table}
-use Rattle.table.specs.declared.Mark.{Mark}
+use Rattle.table.specs.Mark.{Mark}
 use Rattle.state.specs.State.{progress}
 use Rattle.state.specs.Release.{release}
 use Rattle.state.specs.Methods.{tick}

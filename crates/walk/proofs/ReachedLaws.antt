@@ -8,7 +8,7 @@ use borrow.Author.Tests.{eqb-true, eq-eqb, ne_eqb, not-true, ltb-true, lt-ltb}
 use lib.Dec.{eqb, ltb}
 use Rattle.basis.specs.Tests.{pick, and}
 use Rattle.basis.proofs.TestLaws.{either, both_ways, refuted, and_both, and-of}
-use Rattle.table.specs.declared.Mark.{Mark}
+use Rattle.table.specs.Mark.{Mark}
 use Rattle.table.specs.Mark.{is_set}
 use Rattle.state.specs.State.{progress}
 use Rattle.state.specs.Methods.{pay, finish, count}

@@ -10,7 +10,7 @@ use Rattle.basis.specs.Search.{nothing, listed}
 use Rattle.basis.proofs.TestLaws.{by_test}
 use Rattle.basis.proofs.SearchLaws.{listed_at, listed_past}
 use Rattle.table.specs.Mark.{hidden_below, protects, mark, marks_of, is_set}
-use Rattle.table.specs.declared.Mark.{Mark}
+use Rattle.table.specs.Mark.{Mark}
 use Rattle.table.specs.declared.Table.{Table}
 use Rattle.table.proofs.MarkLaws.{marked-some, set_exactly}
 use Rattle.state.specs.Release.{release}

@@ -11,7 +11,7 @@ use lib.ListN.{get_or}
 use lib.Dec.{eqb}
 use Rattle.basis.proofs.TestLaws.{both_ways, either}
 use Rattle.table.specs.declared.Table.{Table}
-use Rattle.table.specs.declared.Mark.{Mark}
+use Rattle.table.specs.Mark.{Mark}
 use Rattle.state.specs.State.{progress, last_clock, PlaceFits, Fits}
 use Rattle.state.specs.Release.{release}
 use Rattle.state.specs.Methods.{tick}

@@ -10,7 +10,7 @@ use lib.Seq.{slice, slice-cons, slice_empty}
 use lib.Dec.{eqb}
 use Rattle.basis.specs.Tests.{pick}
 use Rattle.basis.proofs.TestLaws.{by_test, both_ways}
-use Rattle.table.specs.declared.Mark.{Mark}
+use Rattle.table.specs.Mark.{Mark}
 use Rattle.state.specs.State.{put}
 use Rattle.state.specs.Methods.{paid, pay, done, finish, counted, count}
 use Rattle.state.specs.Given.{Each}

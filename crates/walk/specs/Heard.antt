@@ -1,7 +1,7 @@
 -- Whose bytes a walk hears: the threads reached with a rest above 0, up to the chosen one.
 use Rattle.std.specs.Prelude.{ℕ, ◌≡◌, List, [], ◌∷◌, get_or, eqb}
 use Rattle.basis.specs.Tests.{pick}
-use Rattle.table.specs.declared.Mark.{Mark}
+use Rattle.table.specs.Mark.{Mark}
 use Rattle.state.specs.State.{progress}
 use Rattle.walk.specs.Walk.{visit, chosen}
 use Rattle.state.specs.declared.State.{State}

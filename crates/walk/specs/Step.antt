@@ -3,7 +3,7 @@ use Rattle.std.specs.Prelude.{ℕ, ◌<◌, ◌≡◌, List, true, false, get_or
 use Rattle.basis.specs.Tests.{pick}
 use Rattle.table.specs.Mark.{marks_of, is_set}
 use Rattle.table.specs.declared.Table.{Table}
-use Rattle.table.specs.declared.Mark.{Mark}
+use Rattle.table.specs.Mark.{Mark}
 use Rattle.state.specs.State.{progress}
 use Rattle.state.specs.Release.{release}
 use Rattle.state.specs.Methods.{tick}

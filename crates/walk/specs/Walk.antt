@@ -1,7 +1,7 @@
 -- Parts 2 to 4 of a step: the walk from the highest priority down.
 use Rattle.std.specs.Prelude.{ℕ, List, [], ◌∷◌, Bool, true, false, not, get_or, eqb, ltb}
 use Rattle.basis.specs.Tests.{pick, and}
-use Rattle.table.specs.declared.Mark.{Mark}
+use Rattle.table.specs.Mark.{Mark}
 use Rattle.table.specs.Mark.{is_set}
 use Rattle.state.specs.State.{progress}
 use Rattle.state.specs.Methods.{pay, finish, count}

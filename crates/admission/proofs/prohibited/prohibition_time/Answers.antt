@@ -12,7 +12,7 @@ use mathlib.Core.List.{List}
 use mathlib.Core.Path.{◌≡◌, ◌∙◌, ap}
 use Prim.Native.Nat.{ℕ, ◌+◌}
 use borrow.Author.Rules.{rules}
-use Rattle.table.specs.declared.Mark.{Mark}
+use Rattle.table.specs.Mark.{Mark}
 use Rattle.admission.proofs.prohibited.prohibition_time.Goals as goal
 use Rattle.admission.proofs.prohibited.prohibition_time.Goals.{After-stretch-sum}
 

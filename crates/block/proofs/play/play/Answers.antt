@@ -10,7 +10,7 @@ use Rattle.basis.specs.Search.{listed}
 use Rattle.basis.specs.Turns.{in_turn, after}
 use Rattle.basis.proofs.ListLaws.{long_of}
 use Rattle.table.specs.Threads.{thread}
-use Rattle.table.specs.declared.Mark.{Mark}
+use Rattle.table.specs.Mark.{Mark}
 use Rattle.table.specs.declared.Table.{Table}
 use Rattle.state.specs.State.{progress, put, last_clock, each_thread, Fits}
 use Rattle.state.specs.Release.{has_event, release}

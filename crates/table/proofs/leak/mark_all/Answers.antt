@@ -7,7 +7,7 @@ use borrow.Author.Rules.{rules}
 use Rattle.table.proofs.leak.mark_all.Goals as goal
 
 pub loop-i-init : goal.loop-i-init
-loop-i-init c = (search rules, rw c.no_mark-none.ensures (listed-none (λ k. mark (protects c.args.t k)) (mark nothing) 32))
+loop-i-init c = (search rules, (listed-none (λ k. mark (protects c.args.t k)) (mark nothing) 32))
 
 pub loop-i-preserved : goal.loop-i-preserved
 loop-i-preserved c =

@@ -45,4 +45,4 @@ loop-j-preserved c = (search rules, first_next _ _ c.loop-j.invariant.1 (rw (sym
 pub returns : goal.returns
 unfolding protects
 returns c =
-    c.no_mark.ensures ∙ ap mark (sym (first_end _ _ _ c.loop-j.invariant.1 c.loop-j.invariant.0 c.loop-j-test.false))
+    ap mark (sym (first_end _ _ _ c.loop-j.invariant.1 c.loop-j.invariant.0 c.loop-j-test.false))
