@@ -1,14 +1,15 @@
 // The actuator above the scheduler: one call makes the scheduler's step and the actuator's move.
 #![tactic(auto)]
 
-ghost use Rattle.std.specs.Prelude.{◌≡◌, []};
+ghost use Rattle.std.specs.Prelude.{◌≡◌};
+ghost use Rattle.basis.specs.Refusals.{refused_by};
 ghost use Rattle.actuator.specs.Motion.{start as the-start};
 ghost use Rattle.frame.specs.Mode.{unframed, framed};
 ghost use Rattle.scheduler.specs.Taken.{taken_of};
 ghost use Rattle.actuator.specs.Drive.{follows, driven, drove_of};
-ghost use Rattle.actuator.specs.Given.{Numbers};
 
-use scheduler::{Answer, Frame, Outcome, State, Stepped, step, step_in_frame};
+use basis::Refusal;
+use scheduler::{Frame, Outcome, State, Stepped, step, step_in_frame};
 use table::Table;
 
 mod motion;
@@ -16,7 +17,7 @@ mod motion;
 use motion::{is_ranged, move_to, stand};
 
 // Position and last command in thousandths of a degree, the most that a step moves, and the pitch thread.
-#[derive(Clone, Copy)]
+#[derive(Clone, Copy, Debug, PartialEq, Eq)]
 pub struct Actuator {
     pub position: i32,
     pub command: i32,
@@ -25,7 +26,7 @@ pub struct Actuator {
 }
 
 // On a refusal the state and the actuator are those that were handed in.
-#[derive(Clone, Copy)]
+#[derive(Clone, Copy, Debug, PartialEq, Eq)]
 pub struct Driven {
     pub outcome: Outcome,
     pub state: State,
@@ -44,11 +45,11 @@ pub fn start(position: i32, rate: u32, thread: u8) -> Actuator
     }
 }
 
-fn refuse(why: u8, s: State, a: Actuator) -> Driven
-    ensures { drove_of result ≡ record { told = record { number = why; values = [] }; state = s; actuator = a } }
+fn refuse(why: Refusal, s: State, a: Actuator) -> Driven
+    ensures { drove_of result ≡ record { told = refused_by why; state = s; actuator = a } }
 {
     Driven {
-        outcome: Outcome::Refused(why),
+        outcome: Err(why),
         state: s,
         actuator: a,
     }
@@ -56,27 +57,25 @@ fn refuse(why: u8, s: State, a: Actuator) -> Driven
 
 // The move that follows a step, or its refusal: the step's own, 15, 20, or the answer with the next state and actuator.
 fn follow(t: Table, s: State, a: Actuator, command: i64, r: Stepped) -> Driven
-    requires { Numbers r.outcome }
     ensures { drove_of result ≡ follows t command s a (taken_of r) }
 {
-    let o = r.outcome;
-    match o {
-        Outcome::Chose(answer) => {
+    match r.outcome {
+        Ok(answer) => {
             if t.count <= a.thread {
-                return refuse(15, s, a);
+                return refuse(Refusal::Missing, s, a);
             }
             if !is_ranged(a) {
-                return refuse(20, s, a);
+                return refuse(Refusal::Actuator, s, a);
             }
             let next = r.state;
             let c = stand(a, answer, command);
             Driven {
-                outcome: o,
+                outcome: Ok(answer),
                 state: next,
                 actuator: move_to(a, c),
             }
         }
-        Outcome::Refused(why) => refuse(why, s, a),
+        Err(why) => refuse(why, s, a),
     }
 }
 

@@ -1,5 +1,5 @@
 -- Admission: all bounds, or the first thread in table order that has none.
-use Rattle.std.specs.Prelude.{ℕ, suc, ◌-◌, ◌≤◌, ◌<◌, ◌≡◌, true, false, List, [], ◌∷◌, ◌++◌, length, get_or, replicate}
+use Rattle.std.specs.Prelude.{ℕ, suc, ◌-◌, ◌≤◌, ◌<◌, ◌≡◌, true, false, List, [], ◌∷◌, ◌++◌, length, get_or, replicate, Result, Ok, Err, option_to_list}
 use Rattle.basis.specs.Tests.{pick}
 use Rattle.basis.specs.Search.{Sought, nothing, found, first, listed}
 use Rattle.basis.specs.Told.{Told, answered, refused}
@@ -7,8 +7,9 @@ use Rattle.table.specs.Legal.{legal}
 use Rattle.table.specs.declared.Table.{Table}
 use Rattle.admission.specs.Bounded.{bound, sought_told, IsBound, NoBound}
 use Rattle.admission.specs.Tried.{tried, IsCount}
-use Rattle.admission.specs.declared.Admitting.{Admitting}
-use Rattle.admission.specs.declared.Admitting.TheVariants.{Admitted, Without, NotLegal}
+use Rattle.basis.specs.Refusals.{told_by}
+use Rattle.basis.specs.declared.refusal.Refusal.{Refusal}
+use Rattle.admission.specs.declared.Admission.{Admission}
 
 -- Thread i, if it has no bound.
 abbrev pub lacking : ℕ → Sought ℕ → Sought ℕ
@@ -64,10 +65,17 @@ unfoldable pub counts_given : Table → List ℕ
 counts_given t = pick (legal t) (counts_of t (searched t)) (replicate 32 0)
 
 -- Document 01's number and values of an answer.
-abbrev pub told : Admitting → Told
-told Admitted = answered []
-told (Without i) = answered (i ∷ [])
-told NotLegal = refused 11
+abbrev pub told : Result Admission Refusal → Told
+told r = told_by (λ (a : Admission). option_to_list a.without) r
+
+-- The bounds and the counts beside it: zeros on a refusal.
+abbrev pub bounds_in : Result Admission Refusal → List ℕ
+bounds_in (Ok a) = a.bounds
+bounds_in (Err why) = replicate 32 0
+
+abbrev pub counts_in : Result Admission Refusal → List ℕ
+counts_in (Ok a) = a.tried
+counts_in (Err why) = replicate 32 0
 
 -- Thread i has a bound.
 pub record HasBound (t : Table) (i : ℕ) : Type 0 where

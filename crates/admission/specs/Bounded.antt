@@ -1,5 +1,5 @@
 -- The bound of a thread: the smallest x from W to D whose demand is at most x.
-use Rattle.std.specs.Prelude.{ℕ, suc, ◌≤◌, ◌<◌, ◌≡◌, [], ◌∷◌, Bool, true, false, ltb, leb}
+use Rattle.std.specs.Prelude.{ℕ, suc, ◌≤◌, ◌<◌, ◌≡◌, [], ◌∷◌, Bool, true, false, ltb, leb, Option, Some, None, Result, Ok, Err, option_to_list}
 use Rattle.basis.specs.Tests.{pick, and}
 use Rattle.basis.specs.Search.{Sought, nothing, found, first}
 use Rattle.basis.specs.Told.{Told, answered, refused}
@@ -8,10 +8,9 @@ use Rattle.table.specs.Legal.{legal}
 use Rattle.table.specs.declared.Table.{Table}
 use Rattle.admission.specs.Demand.{demand}
 use Rattle.admission.specs.Tried.{IsCount}
-use Rattle.admission.specs.declared.Bound.{Bound}
-use Rattle.admission.specs.declared.Bound.TheVariants.{Within, None, NotLegal, NoThread}
-use Rattle.admission.specs.declared.Reached.{Reached}
-use Rattle.admission.specs.declared.Reached.TheVariants.{At, Nowhere}
+use Rattle.basis.specs.Refusals.{told_by}
+use Rattle.basis.specs.declared.refusal.Refusal.{Refusal}
+use Rattle.admission.specs.declared.Search.{Search}
 
 -- x is at least W of i, and its demand is at most x.
 unfoldable pub enough : Table → ℕ → ℕ → Bool
@@ -25,9 +24,9 @@ unfoldable pub bound : Table → ℕ → Sought ℕ
 bound t i = first (suc (thread t i).deadline) (length_at t i)
 
 -- What the code has in hand: the length where its search ended.
-abbrev pub sought : Reached → Sought ℕ
-sought (At x) = found x
-sought Nowhere = nothing
+abbrev pub sought : Option ℕ → Sought ℕ
+sought (Some x) = found x
+sought None = nothing
 
 -- What was found is the one value, and there is no value where nothing was.
 abbrev pub sought_told : Sought ℕ → Told
@@ -39,11 +38,13 @@ unfoldable pub bounding : Table → ℕ → Told
 bounding t i = pick (legal t) (pick (ltb i t.count) (sought_told (bound t i)) (refused 15)) (refused 11)
 
 -- Document 01's number and values of an answer.
-abbrev pub told : Bound → Told
-told (Within x) = answered (x ∷ [])
-told None = answered []
-told NotLegal = refused 11
-told NoThread = refused 15
+abbrev pub told : Result Search Refusal → Told
+told r = told_by (λ (s : Search). option_to_list s.bound) r
+
+-- The count beside it: 0 on a refusal.
+abbrev pub count_in : Result Search Refusal → ℕ
+count_in (Ok s) = s.tried
+count_in (Err why) = 0
 
 -- The plain reading of thread i's bound: from W to D, its demand at most its length, and no smaller length is such.
 pub record IsBound (t : Table) (i x : ℕ) : Type 0 where

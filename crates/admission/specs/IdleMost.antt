@@ -7,8 +7,6 @@ use Rattle.table.specs.Threads.{thread}
 use Rattle.table.specs.Legal.{legal}
 use Rattle.table.specs.declared.Table.{Table}
 use Rattle.table.specs.declared.Thread.{Thread}
-use Rattle.admission.specs.declared.IdleMost.{IdleMost}
-use Rattle.admission.specs.declared.IdleMost.TheVariants.{Steps, NotLegal, NoThread}
 
 -- W for each release that L steps have at most, and once more for what is left of an earlier one: (ceil(L / P) + 1) times W.
 unfoldable pub idle_most : Thread → ℕ → ℕ
@@ -17,12 +15,6 @@ idle_most th length = (ceil length th.period + 1) * th.budget
 -- 11, then 15 for a thread that the table lacks, then the figure.
 unfoldable pub idling : Table → ℕ → ℕ → Told
 idling t h length = pick (legal t) (pick (ltb h t.count) (answered (idle_most (thread t h) length ∷ [])) (refused 15)) (refused 11)
-
--- Document 01's number and values of an answer.
-abbrev pub told : IdleMost → Told
-told (Steps n) = answered (n ∷ [])
-told NotLegal = refused 11
-told NoThread = refused 15
 
 -- What `idle_most` tells, in plain words: one row for each case, and an answer is given in its row only.
 pub data IdleAnswer (t : Table) (h length : ℕ) : Told → Type 0 where

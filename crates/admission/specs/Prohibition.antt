@@ -9,8 +9,6 @@ use Rattle.table.specs.Mark.{marked, Leaks}
 use Rattle.table.specs.declared.Table.{Table}
 use Rattle.table.specs.declared.Thread.{Thread}
 use Rattle.admission.specs.Demand.{sum, SumOf, above}
-use Rattle.admission.specs.declared.ProhibitionTime.{ProhibitionTime}
-use Rattle.admission.specs.declared.ProhibitionTime.TheVariants.{Steps, NotLegal, NoThread}
 
 -- What thread h, with its mark, brings to own's prohibition time: if it is marked and stands above, B of h as often as h is released in P of
 -- own, ceil(P of own / P of h) times.
@@ -24,12 +22,6 @@ prohibition t l = sum t.count (λ h. stretch (thread t l) (marked t h) (thread t
 -- 11, then 15 for a thread that the table lacks, then the time.
 unfoldable pub prohibiting : Table → ℕ → Told
 prohibiting t l = pick (legal t) (pick (ltb l t.count) (answered (prohibition t l ∷ [])) (refused 15)) (refused 11)
-
--- Document 01's number and values of an answer.
-abbrev pub told : ProhibitionTime → Told
-told (Steps n) = answered (n ∷ [])
-told NotLegal = refused 11
-told NoThread = refused 15
 
 -- What thread h brings to the prohibition time of thread l, in plain words.
 pub data Prohibits (t : Table) (l h : ℕ) : ℕ → Type 0 where

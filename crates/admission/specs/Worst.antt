@@ -6,8 +6,6 @@ use Rattle.table.specs.Legal.{legal}
 use Rattle.table.specs.declared.Table.{Table}
 use Rattle.admission.specs.Demand.{sum}
 use Rattle.admission.specs.Tried.{most_tried}
-use Rattle.admission.specs.declared.WorstCount.{WorstCount}
-use Rattle.admission.specs.declared.WorstCount.TheVariants.{Lengths, NotLegal}
 
 -- The sum of D - W + 1 over all threads.
 unfoldable pub worst : Table → ℕ
@@ -17,7 +15,3 @@ worst t = sum t.count (most_tried t)
 unfoldable pub worst_given : Table → Told
 worst_given t = pick (legal t) (answered (worst t ∷ [])) (refused 11)
 
--- Document 01's number and values of an answer.
-abbrev pub told : WorstCount → Told
-told (Lengths n) = answered (n ∷ [])
-told NotLegal = refused 11

@@ -31,7 +31,7 @@ pub fn prohibition_time(t: Table, l: u8) -> u64
     for h in 0..t.count {
         let mark = marks[h as usize];
         let upper = t.threads[h as usize];
-        sum += stretch(own, mark.set, upper);
+        sum += stretch(own, mark.is_some(), upper);
     }
     sum
 }

@@ -46,6 +46,11 @@ told_number r = told_by (λ n. n ∷ []) r
 abbrev pub told_done : {A : Type 0} → Result A Refusal → Told
 told_done r = told_by (λ a. []) r
 
+-- The number that a call is refused with, 0 where it is not.
+abbrev pub number_or_0 : {A : Type 0} → Result A Refusal → ℕ
+number_or_0 (Ok a) = 0
+number_or_0 (Err why) = number why
+
 -- What a call gives beside: a value that stands for all others on a refusal.
 abbrev pub given_or : {A : Type 0} → A → Result A Refusal → A
 given_or z (Ok a) = a

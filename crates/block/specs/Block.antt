@@ -1,5 +1,5 @@
 -- A block of steps in one call: the state after them and one byte a step, or the number that refuses them all.
-use Rattle.std.specs.Prelude.{ℕ, ◌+◌, ◌*◌, ◌/◌, ◌%◌, List, ◌++◌, map, Bool, length, get_or, take, drop, eqb, leb}
+use Rattle.std.specs.Prelude.{ℕ, ◌+◌, ◌*◌, ◌/◌, ◌%◌, List, ◌++◌, map, Bool, length, get_or, take, drop, eqb, leb, Result}
 use Rattle.basis.specs.Tests.{pick, and, every}
 use Rattle.basis.specs.Search.{listed}
 use Rattle.basis.specs.Turns.{in_turn, after}
@@ -13,6 +13,8 @@ use Rattle.walk.specs.declared.Answer.{Answer}
 use Rattle.walk.specs.declared.Answer.TheVariants.{Ran, IdleFor, Idle}
 use Rattle.walk.specs.declared.Walked.{Walked}
 use Rattle.scheduler.specs.Taken.{Taken, answer_of, mask_ok}
+use Rattle.basis.specs.Refusals.{number_or_0, given_or}
+use Rattle.basis.specs.declared.refusal.Refusal.{Refusal}
 use Rattle.block.specs.declared.Ended.{Ended}
 
 -- The byte of an answer: i is thread i, 32 + i is idle for i, 255 is idle.
@@ -105,6 +107,9 @@ recorded t mode masks bytes s out at =
     pick (leb at (length out)) (behind at out (block t mode masks bytes s (drop at out)))
     (refused_block (or_no_room (refusal t mode masks bytes s 0)) s out)
 
--- What an answer of the code gives, with what the part holds at its end.
+-- What an answer of the code gives, with what the part holds at its end; the place is 0 on a refusal.
+abbrev pub next_of : Result ℕ Refusal → ℕ
+next_of r = given_or 0 r
+
 abbrev pub blocked_of : Ended → List ℕ → Blocked
-blocked_of r part = record { number = r.number; state = r.state; part = part; next = r.next }
+blocked_of r part = record { number = number_or_0 r.outcome; state = r.state; part = part; next = next_of r.outcome }

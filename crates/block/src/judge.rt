@@ -1,9 +1,11 @@
 // The numbers that refuse a block of a legal table.
 ghost use Rattle.std.specs.Prelude.{◌≡◌, ◌/◌, ◌%◌, ◌≤◌, ◌<◌, eqb};
+ghost use Rattle.basis.specs.Refusals.{number_or_0};
 ghost use Rattle.basis.specs.Tests.{and};
 ghost use Rattle.block.specs.Block.{masks_ok, refusal_then};
 ghost use Rattle.block.specs.Play.{event_bit, events};
 
+use basis::Refusal;
 use scheduler::mask_passes;
 use state::{State, fits};
 use table::{Table, Thread};
@@ -66,27 +68,27 @@ fn masks_pass(t: Table, masks: &[u32]) -> bool
     true
 }
 
-// 12, 13, 18, 14, 16, or 0.
-pub fn refusal(t: Table, s: State, masks: &[u32], bytes: &[u8], room: usize) -> u8
+// 12, 13, 18, 14, 16, or none of them.
+pub fn judge(t: Table, s: State, masks: &[u32], bytes: &[u8], room: usize) -> Result<(), Refusal>
     requires { (t.count ≤ 32) × (0 < t.count) }
-    ensures { result ≡ refusal_then t masks.now bytes.now s room }
+    ensures { number_or_0 result ≡ refusal_then t masks.now bytes.now s room }
 {
     if !fits(t, s) {
-        return 12;
+        return Err(Refusal::NotFitting);
     }
     let m = masks.len();
     if !is_whole(t.count as usize, m, bytes.len()) {
-        return 13;
+        return Err(Refusal::StepBytes);
     }
     if !masks_pass(t, masks) {
-        return 18;
+        return Err(Refusal::EventMask);
     }
     let left = 1000000000 - s.clock;
     if (left as usize) < m {
-        return 14;
+        return Err(Refusal::LastClock);
     }
     if room < m {
-        return 16;
+        return Err(Refusal::NoRoom);
     }
-    0
+    Ok(())
 }

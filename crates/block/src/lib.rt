@@ -5,6 +5,7 @@ ghost use Rattle.std.specs.Prelude.{◌≡◌};
 ghost use Rattle.frame.specs.Mode.{unframed, framed};
 ghost use Rattle.block.specs.Block.{block, blocked_of};
 
+use basis::Refusal;
 use frame::{Frame, frame_passes};
 use state::State;
 use table::{Table, legal};
@@ -17,17 +18,26 @@ mod stretch;
 mod thread;
 mod window;
 
-use judge::refusal;
+use judge::judge;
 pub use place::{run_at, run_at_in_frame};
 use play::play;
 use stretch::play_in_frame;
 
-// 0, a state, and the place behind the last byte; or the number of the refusal, the state that was handed in, and 0.
-#[derive(Clone, Copy)]
+// The place behind the last byte and a state, or why the block is refused and the state that was handed in.
+#[derive(Clone, Copy, Debug, PartialEq, Eq)]
 pub struct Ended {
-    pub number: u8,
+    pub outcome: Result<usize, Refusal>,
     pub state: State,
-    pub next: usize,
+}
+
+// A refused block hands back the state that was handed in.
+fn refuse(why: Refusal, s: State) -> Ended
+    ensures { result ≡ record { outcome = Err why; state = s } }
+{
+    Ended {
+        outcome: Err(why),
+        state: s,
+    }
 }
 
 // One step for each mask: 11, 12, 13, 18, 14, 16, or the end state, with one byte a step at the part's front.
@@ -35,19 +45,10 @@ pub fn run(t: Table, s: State, masks: &[u32], bytes: &[u8], part: &mut [u8]) -> 
     ensures { blocked_of result part.new ≡ block t unframed masks.now bytes.now s part.old }
 {
     if !legal(t) {
-        return Ended {
-            number: 11,
-            state: s,
-            next: 0,
-        };
+        return refuse(Refusal::NotLegal, s);
     }
-    let number = refusal(t, s, masks, bytes, part.len());
-    if number != 0 {
-        return Ended {
-            number,
-            state: s,
-            next: 0,
-        };
+    if let Err(why) = judge(t, s, masks, bytes, part.len()) {
+        return refuse(why, s);
     }
     let p = prepare(t);
     let order = p.order;
@@ -55,9 +56,8 @@ pub fn run(t: Table, s: State, masks: &[u32], bytes: &[u8], part: &mut [u8]) -> 
     let m = masks.len();
     let end = play(t, order, marks, s, masks, bytes, 0, m, part);
     Ended {
-        number: 0,
+        outcome: Ok(m),
         state: end,
-        next: m,
     }
 }
 
@@ -73,32 +73,18 @@ pub fn run_in_frame(
     ensures { blocked_of result part.new ≡ block t (framed f) masks.now bytes.now s part.old }
 {
     if !legal(t) {
-        return Ended {
-            number: 11,
-            state: s,
-            next: 0,
-        };
+        return refuse(Refusal::NotLegal, s);
     }
     if !frame_passes(t, f) {
-        return Ended {
-            number: 19,
-            state: s,
-            next: 0,
-        };
+        return refuse(Refusal::Frame, s);
     }
-    let number = refusal(t, s, masks, bytes, part.len());
-    if number != 0 {
-        return Ended {
-            number,
-            state: s,
-            next: 0,
-        };
+    if let Err(why) = judge(t, s, masks, bytes, part.len()) {
+        return refuse(why, s);
     }
     let all = prepare(t);
     let end = play_in_frame(t, f, all, s, masks, bytes, part);
     Ended {
-        number: 0,
+        outcome: Ok(masks.len()),
         state: end,
-        next: masks.len(),
     }
 }

@@ -1,55 +1,61 @@
 // A block written into a whole record, from the place where the last call stopped.
 ghost use Rattle.std.specs.Prelude.{◌+◌, ◌<◌, ◌≡◌};
 ghost use Rattle.frame.specs.Mode.{unframed, framed};
-ghost use Rattle.block.specs.Block.{refusal as the-refusal, blocked_of, or_no_room, stop as the-stop, recorded};
+ghost use Rattle.basis.specs.Refusals.{number, number_or_0};
+ghost use Rattle.block.specs.Block.{refusal as the-refusal, next_of, blocked_of, or_no_room, stop as the-stop, recorded};
 
-use super::judge::refusal;
-use super::{Ended, run, run_in_frame};
+use super::judge::judge;
+use super::{Ended, refuse, run, run_in_frame};
+use basis::Refusal;
 use frame::{Frame, frame_passes};
 use state::State;
 use table::{Table, legal};
 
-fn or_no_room(n: u8) -> u8
-    ensures { result ≡ or_no_room n }
+// Where no other number refuses a block that has no place to write, 16 does.
+fn or_no_room(judged: Result<(), Refusal>) -> Refusal
+    ensures { number result ≡ or_no_room (number_or_0 judged) }
 {
-    if n == 0 {
-        return 16;
+    match judged {
+        Ok(()) => Refusal::NoRoom,
+        Err(why) => why,
     }
-    n
 }
 
-// The number that refuses a block where there is no place to write.
-fn past_end(t: Table, s: State, masks: &[u32], bytes: &[u8]) -> u8
-    ensures { result ≡ or_no_room (the-refusal t unframed masks.now bytes.now s 0) }
+// What refuses a block where there is no place to write.
+fn past_end(t: Table, s: State, masks: &[u32], bytes: &[u8]) -> Refusal
+    ensures { number result ≡ or_no_room (the-refusal t unframed masks.now bytes.now s 0) }
 {
     if !legal(t) {
-        return 11;
+        return Refusal::NotLegal;
     }
-    or_no_room(refusal(t, s, masks, bytes, 0))
+    or_no_room(judge(t, s, masks, bytes, 0))
 }
 
 // The same in a frame.
-fn past_end_in_frame(t: Table, f: Frame, s: State, masks: &[u32], bytes: &[u8]) -> u8
-    ensures { result ≡ or_no_room (the-refusal t (framed f) masks.now bytes.now s 0) }
+fn past_end_in_frame(t: Table, f: Frame, s: State, masks: &[u32], bytes: &[u8]) -> Refusal
+    ensures { number result ≡ or_no_room (the-refusal t (framed f) masks.now bytes.now s 0) }
 {
     if !legal(t) {
-        return 11;
+        return Refusal::NotLegal;
     }
     if !frame_passes(t, f) {
-        return 19;
+        return Refusal::Frame;
     }
-    or_no_room(refusal(t, s, masks, bytes, 0))
+    or_no_room(judge(t, s, masks, bytes, 0))
 }
 
-// Where a call stopped that writes m bytes from a place on: at 0 if it is refused.
-fn stop(number: u8, at: usize, m: usize) -> usize
-    requires { at + m < 18446744073709551616 }
-    ensures { result ≡ the-stop number at m }
+// What a part's run gives, said of the whole record that it starts in at a place.
+fn behind(at: usize, end: Ended) -> Ended
+    requires { at + next_of end.outcome < 18446744073709551616 }
+    ensures { (result.state ≡ end.state) × (number_or_0 result.outcome ≡ number_or_0 end.outcome) × (next_of result.outcome ≡ the-stop (number_or_0 end.outcome) at (next_of end.outcome)) }
 {
-    if number != 0 {
-        return 0;
+    match end.outcome {
+        Ok(next) => Ended {
+            outcome: Ok(at + next),
+            state: end.state,
+        },
+        Err(_) => end,
     }
-    at + m
 }
 
 // One step for each mask, the bytes from the place at on: the part that is lent starts there, and the next call's place is reported.
@@ -57,22 +63,9 @@ pub fn run_at(t: Table, s: State, masks: &[u32], bytes: &[u8], out: &mut [u8], a
     ensures { blocked_of result out.new ≡ recorded t unframed masks.now bytes.now s out.old at }
 {
     if out.len() < at {
-        let number = past_end(t, s, masks, bytes);
-        return Ended {
-            number,
-            state: s,
-            next: 0,
-        };
+        return refuse(past_end(t, s, masks, bytes), s);
     }
-    let end = run(t, s, masks, bytes, &mut out[at..]);
-    let number = end.number;
-    let state = end.state;
-    let next = stop(number, at, end.next);
-    Ended {
-        number,
-        state,
-        next,
-    }
+    behind(at, run(t, s, masks, bytes, &mut out[at..]))
 }
 
 // The same in a frame.
@@ -88,20 +81,7 @@ pub fn run_at_in_frame(
     ensures { blocked_of result out.new ≡ recorded t (framed f) masks.now bytes.now s out.old at }
 {
     if out.len() < at {
-        let number = past_end_in_frame(t, f, s, masks, bytes);
-        return Ended {
-            number,
-            state: s,
-            next: 0,
-        };
+        return refuse(past_end_in_frame(t, f, s, masks, bytes), s);
     }
-    let end = run_in_frame(t, f, s, masks, bytes, &mut out[at..]);
-    let number = end.number;
-    let state = end.state;
-    let next = stop(number, at, end.next);
-    Ended {
-        number,
-        state,
-        next,
-    }
+    behind(at, run_in_frame(t, f, s, masks, bytes, &mut out[at..]))
 }

@@ -108,8 +108,7 @@ pub fn play(
                 } else {
                     next.threads[p].rest = rest - 1;
                     next.threads[p].finished = heard(finished, b);
-                    let mark = marks[p];
-                    if mark.set {
+                    if marks[p].is_some() {
                         answer = 32 + i;
                         r = ranked;
                     } else {

@@ -68,12 +68,9 @@ listing t trace list =
     (refusing 11 list)
 
 -- The document's number and values of an answer.
-abbrev pub told : Report → Told
-told (Cleaned n) = answered (n ∷ [])
-told NotLegal = refused 11
-told NoThread = refused 21
-told NoRoom = refused 16
+abbrev pub told : Result ℕ Refusal → Told
+told r = told_number r
 
 -- An answer of the code, and what it left in the list.
-abbrev pub outcome : Report → List Cleaning → Outcome
+abbrev pub outcome : Result ℕ Refusal → List Cleaning → Outcome
 outcome r list = record { told = told r; list = list }

@@ -3,26 +3,18 @@
 
 ghost use Rattle.std.specs.Prelude.{◌≡◌, ◌≤◌, length, drop};
 ghost use Rattle.cleaning.specs.Cleanings.{nobody, latest, last_run, cleaned, known, listing, outcome};
-ghost use Rattle.cleaning.specs.Scan.{none, first, Ways, passes, barred, scanned, following, pasted, tallied, reported, entries};
+ghost use Rattle.cleaning.specs.Scan.{none, first, Ways, passes, barred, scanned, following, pasted, tallied, reported, counted};
 
+use basis::Refusal;
 use flow::row;
 use table::{Table, legal};
 
 // At a step, between the thread that last ran before it and the thread that runs.
-#[derive(Clone, Copy)]
+#[derive(Clone, Copy, Debug, PartialEq, Eq)]
 pub struct Cleaning {
     pub step: u64,
     pub before: u8,
     pub after: u8,
-}
-
-// How many cleanings there are, or the refusal.
-#[derive(Clone, Copy)]
-pub enum Report {
-    Cleaned(usize),
-    NotLegal,
-    NoThread,
-    NoRoom,
 }
 
 fn no_cleaning() -> Cleaning
@@ -158,8 +150,8 @@ fn is_known(count: u8, b: u8) -> bool
 }
 
 // One pass: how many cleanings a trace has, if each of its bytes passes.
-fn tally(n: u8, w: &[u16; 64], trace: &[u8]) -> Report
-    ensures { result ≡ tallied n w.now trace.now }
+fn tally(n: u8, w: &[u16; 64], trace: &[u8]) -> Result<usize, Refusal>
+    ensures { counted result ≡ tallied n w.now trace.now }
 {
     let mut m: usize = 0;
     let mut i: usize = 0;
@@ -167,7 +159,7 @@ fn tally(n: u8, w: &[u16; 64], trace: &[u8]) -> Report
     while i < trace.len() {
         let b = trace[i];
         if !is_known(n, b) {
-            return Report::NoThread;
+            return Err(Refusal::TraceByte);
         }
         if must_clean(n, w, a, b) {
             m += 1;
@@ -175,46 +167,32 @@ fn tally(n: u8, w: &[u16; 64], trace: &[u8]) -> Report
         a = latest_of(n, a, b);
         i += 1;
     }
-    Report::Cleaned(m)
-}
-
-// How many places an answer says are written.
-fn written(v: Report) -> usize
-    ensures { result ≡ entries v }
-{
-    match v {
-        Report::Cleaned(n) => n,
-        Report::NotLegal => 0,
-        Report::NoThread => 0,
-        Report::NoRoom => 0,
-    }
+    Ok(m)
 }
 
 // The answer for a list of so many places.
-fn judge(t: Table, trace: &[u8], places: usize) -> Report
-    ensures { result ≡ reported t trace.now places }
+fn judge(t: Table, trace: &[u8], places: usize) -> Result<usize, Refusal>
+    ensures { counted result ≡ reported t trace.now places }
 {
     if !legal(t) {
-        return Report::NotLegal;
+        return Err(Refusal::NotLegal);
     }
     let w = ways_of(t);
-    let r = tally(t.count, &w, trace);
-    if places < written(r) {
-        return Report::NoRoom;
+    let m = tally(t.count, &w, trace)?;
+    if places < m {
+        return Err(Refusal::NoRoom);
     }
-    r
+    Ok(m)
 }
 
 // The cleanings of a trace, in the first places of the list: 11, 21, 16, or how many they are.
-pub fn clean(list: &mut [Cleaning], t: Table, trace: &[u8]) -> Report
+pub fn clean(list: &mut [Cleaning], t: Table, trace: &[u8]) -> Result<usize, Refusal>
     ensures { outcome result list.new ≡ listing t trace.now list.old }
 {
-    let r = judge(t, trace, list.len());
-    let m = written(r);
+    let m = judge(t, trace, list.len())?;
     let w = ways_of(t);
-    let n = t.count;
-    fill(list, n, &w, trace, m);
-    r
+    fill(list, t.count, &w, trace, m);
+    Ok(m)
 }
 
 // The thread that last ran in a trace, or 255: the byte that the next part of a long trace begins with.

@@ -15,7 +15,7 @@ use Rattle.table.specs.Threads.{field_count, fields_in}
 use Rattle.table.specs.Ranges.{versions, domain_counts, thread_counts, field_range}
 use Rattle.table.specs.declared.Range.{Range}
 use Rattle.table.specs.declared.Thread.{Thread}
-use Rattle.numeral.specs.declared.Number.{Number}
+use Rattle.numeral.specs.Number.{Number}
 use Rattle.numeral.specs.Number.{third, second, number, number_at}
 use Rattle.table.proofs.RangeLaws.{fields_in-most}
 use Rattle.reader.specs.declared.Cursor.{Cursor}

@@ -8,14 +8,14 @@ ghost use Rattle.frame.specs.Frame.{window, window_ok, frame_ok, frame_length, w
 use table::{Range, Table, in_range};
 
 // The domain that a window is of, and how many steps it takes.
-#[derive(Clone, Copy)]
+#[derive(Clone, Copy, Debug, PartialEq, Eq)]
 pub struct Window {
     pub domain: u8,
     pub length: u16,
 }
 
 // The first count windows are in use.
-#[derive(Clone, Copy)]
+#[derive(Clone, Copy, Debug, PartialEq, Eq)]
 pub struct Frame {
     pub count: u8,
     pub windows: [Window; 64],

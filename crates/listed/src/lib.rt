@@ -5,26 +5,24 @@ ghost use Rattle.std.specs.Prelude.{◌≡◌, replicate};
 ghost use Rattle.cleaning.specs.Cleanings.{listing, outcome};
 ghost use Rattle.cleaning.specs.Scan.{none};
 
-use cleaning::{Cleaning, Report};
+use basis::Refusal;
+use cleaning::Cleaning;
 use table::Table;
 
-#[derive(Clone, Copy)]
+#[derive(Clone, Copy, Debug, PartialEq, Eq)]
 pub struct Listed {
-    pub report: Report,
+    pub outcome: Result<usize, Refusal>,
     pub list: [Cleaning; 64],
 }
 
 pub fn make_list(t: Table, trace: &[u8]) -> Listed
-    ensures { outcome result.report result.list ≡ listing t trace.now (replicate 64 none) }
+    ensures { outcome result.outcome result.list ≡ listing t trace.now (replicate 64 none) }
 {
     let mut list = [Cleaning {
         step: 0,
         before: 0,
         after: 0,
     }; 64];
-    let v = cleaning::clean(&mut list, t, trace);
-    Listed {
-        report: v,
-        list: list,
-    }
+    let outcome = cleaning::clean(&mut list, t, trace);
+    Listed { outcome, list }
 }

@@ -1,15 +1,13 @@
 -- Mending a flow policy: 5, 6, 16, or the rows mended and the pairs added.
-use Rattle.std.specs.Prelude.{ℕ, ◌-◌, List, [], ◌∷◌, ◌++◌, Bool, length, get_or, drop, replicate, leb}
+use Rattle.std.specs.Prelude.{ℕ, ◌-◌, List, [], ◌∷◌, ◌++◌, Bool, length, get_or, drop, replicate, leb, Option, Some, None, Result, Ok, Err}
 use Rattle.basis.specs.Tests.{pick, and}
 use Rattle.basis.specs.Search.{Sought, nothing, found, first}
 use Rattle.basis.specs.Told.{Told, answered, refused}
 use Rattle.flow.specs.Flow.{row_ok}
 use Rattle.mend.specs.Rows.{mended, added, count}
-use Rattle.mend.specs.declared.Fault.{Fault}
-use Rattle.mend.specs.declared.Fault.TheVariants.{Row, None}
 use Rattle.mend.specs.declared.Mended.{Mended}
-use Rattle.mend.specs.declared.Mending.{Mending}
-use Rattle.mend.specs.declared.Mending.TheVariants.{Added, BadCount, BadRow, NoRoom}
+use Rattle.mend.specs.declared.Unmendable.{Unmendable}
+use Rattle.mend.specs.declared.Unmendable.TheVariants.{BadCount, BadRow, NoRoom}
 
 -- What a call tells, the rows that it gives, and what the lent list then holds.
 pub record Outcome : Type 0 where
@@ -34,8 +32,8 @@ unfoldable pub bad_row : ℕ → List ℕ → Sought ℕ
 bad_row d rows = first d (bad_at d rows)
 
 -- What the code's answer to that question says.
-abbrev pub sought : Fault → Sought ℕ
-sought (Row i) = found i
+abbrev pub sought : Option ℕ → Sought ℕ
+sought (Some i) = found i
 sought None = nothing
 
 -- Refused: no row but zeros, and the list as it was.
@@ -58,12 +56,12 @@ unfoldable pub mending : List ℕ → List ℕ → Outcome
 mending given pairs = pick (count_ok (length given)) (judging (length given) (full given) pairs (bad_row (length given) (full given))) (refusing (refused 5) pairs)
 
 -- Document 01's number and values of an answer.
-abbrev pub told : Mending → Told
-told (Added n) = answered (n ∷ [])
-told BadCount = refused 5
-told (BadRow i) = record { number = 6; values = i ∷ [] }
-told NoRoom = refused 16
+abbrev pub told_unmendable : Unmendable → Told
+told_unmendable BadCount = refused 5
+told_unmendable (BadRow i) = record { number = 6; values = i ∷ [] }
+told_unmendable NoRoom = refused 16
 
--- A result of the code, and what it left in the list.
-abbrev pub outcome : Mended → List ℕ → Outcome
-outcome r pairs = record { told = told r.answer; rows = r.rows; pairs = pairs }
+-- A result of the code, and what it left in the list: no row but zeros on a refusal.
+abbrev pub outcome : Result Mended Unmendable → List ℕ → Outcome
+outcome (Ok m) pairs = record { told = answered (m.added ∷ []); rows = m.rows; pairs = pairs }
+outcome (Err why) pairs = refusing (told_unmendable why) pairs

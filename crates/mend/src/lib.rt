@@ -1,7 +1,7 @@
 // Mending a flow policy: the smallest transitive relation that holds the rows given, and the pairs that were added.
 #![tactic(auto)]
 
-ghost use Rattle.std.specs.Prelude.{◌≡◌, ◌≤◌, length, replicate};
+ghost use Rattle.std.specs.Prelude.{◌≡◌, ◌≤◌, length};
 ghost use Rattle.mend.specs.Mend.{full, bad_row, sought, outcome, mending};
 
 use flow::row_passes;
@@ -12,27 +12,19 @@ mod pairs;
 use grid::mended;
 use pairs::{count_added, list_added};
 
-// How many pairs were added, or the refusal.
-#[derive(Clone, Copy)]
-pub enum Mending {
-    Added(usize),
-    BadCount,
-    BadRow(u8),
-    NoRoom,
-}
-
-// The answer, and the rows mended; zeros behind the last domain, and on a refusal.
-#[derive(Clone, Copy)]
+// How many pairs were added, and the rows mended, with zeros behind the last domain.
+#[derive(Clone, Copy, Debug, PartialEq, Eq)]
 pub struct Mended {
-    pub answer: Mending,
+    pub added: usize,
     pub rows: [u16; 16],
 }
 
-// The first row that does not pass, if there is one.
-#[derive(Clone, Copy)]
-enum Fault {
-    Row(u8),
-    None,
+// Why rows are not mended: how many they are, the first that does not pass, or too little room for the pairs.
+#[derive(Clone, Copy, Debug, PartialEq, Eq)]
+pub enum Unmendable {
+    BadCount,
+    BadRow(u8),
+    NoRoom,
 }
 
 // The rows as a table has them, with zeros behind the last.
@@ -47,51 +39,42 @@ fn copied(given: &[u16]) -> [u16; 16]
     rows
 }
 
-fn first_bad(domains: u8, rows: [u16; 16]) -> Fault
+// The first row that does not pass, if there is one.
+fn first_bad(domains: u8, rows: [u16; 16]) -> Option<u8>
     requires { domains ≤ 16 }
     ensures { sought result ≡ bad_row domains rows }
 {
     for i in 0..domains {
         if !row_passes(domains, i, rows[i as usize]) {
-            return Fault::Row(i);
+            return Some(i);
         }
     }
-    Fault::None
-}
-
-fn refused(answer: Mending) -> Mended
-    ensures { (result.answer ≡ answer) × (result.rows ≡ replicate 16 0) }
-{
-    Mended {
-        answer,
-        rows: [0; 16],
-    }
+    None
 }
 
 // The rows given, one a domain, mended; each pair that was added stands in the list, as 16 times the source plus the target.
-pub fn mend(given: &[u16], pairs: &mut [u8]) -> Mended
+pub fn mend(given: &[u16], pairs: &mut [u8]) -> Result<Mended, Unmendable>
     ensures { outcome result pairs.new ≡ mending given.now pairs.old }
 {
     let n = given.len();
     if n == 0 {
-        return refused(Mending::BadCount);
+        return Err(Unmendable::BadCount);
     }
     if 16 < n {
-        return refused(Mending::BadCount);
+        return Err(Unmendable::BadCount);
     }
     let rows = copied(given);
-    let fault = first_bad(n as u8, rows);
-    if let Fault::Row(i) = fault {
-        return refused(Mending::BadRow(i));
+    if let Some(i) = first_bad(n as u8, rows) {
+        return Err(Unmendable::BadRow(i));
     }
     let ms = mended(n, rows);
     let count = count_added(rows, ms);
     if pairs.len() < count {
-        return refused(Mending::NoRoom);
+        return Err(Unmendable::NoRoom);
     }
     list_added(rows, ms, pairs);
-    Mended {
-        answer: Mending::Added(count),
+    Ok(Mended {
+        added: count,
         rows: ms,
-    }
+    })
 }

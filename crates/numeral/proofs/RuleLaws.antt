@@ -9,8 +9,8 @@ use lib.Dec.{eqb, ltb, leb}
 use borrow.Author.Tests.{le-leb, lt-leb, lt-ltb, le-ltb, ne_eqb, ltb-true, ltb-false, leb-true, leb-false, eqb-true, eqb-false}
 use Rattle.basis.specs.Tests.{pick}
 use Rattle.basis.proofs.TestLaws.{either}
-use Rattle.numeral.specs.declared.Number.{Number}
-use Rattle.numeral.specs.declared.Number.TheVariants.{Value, Refused}
+use Rattle.numeral.specs.Number.{Number}
+use Rattle.numeral.specs.Number.{Value, Refused}
 use Rattle.numeral.specs.Number.{third, second, number, number_at, encode}
 use Rattle.numeral.specs.NumberRules.{of_three, NoNumber, first-missing, second-missing, third-missing, third-goes_on, second-zero, third-zero, too_large, NumberValue, one_byte, two_bytes, three-bytes, Rule, Bytes, Stands}
 use Rattle.numeral.proofs.NumberLaws.{number-encode, number_at_back}

@@ -1,9 +1,15 @@
 -- A number in the bytes of a table: groups of seven bits, lowest first; a byte of 128 or more says that another follows.
-use Rattle.std.specs.Prelude.{ℕ, ◌+◌, ◌-◌, ◌*◌, ◌/◌, ◌%◌, List, [], ◌∷◌, ◌++◌, drop, eqb, ltb, leb}
+use Rattle.std.specs.Prelude.{ℕ, ◌+◌, ◌-◌, ◌*◌, ◌/◌, ◌%◌, List, [], ◌∷◌, ◌++◌, drop, eqb, ltb, leb, Result, Ok, Err}
 use Rattle.basis.specs.Tests.{pick}
 use Rattle.basis.specs.Told.{Told, answered, refused}
-use Rattle.numeral.specs.declared.Number.{Number}
-use Rattle.numeral.specs.declared.Number.TheVariants.{Value, Refused}
+use Rattle.basis.specs.Refusals.{number as number_of}
+use Rattle.basis.specs.declared.refusal.Refusal.{Refusal}
+use Rattle.numeral.specs.declared.Numeral.{Numeral}
+
+-- A number and the place after it, or document 01's number for what refuses it.
+pub data Number : Type 0 where
+  Value : ℕ → ℕ → Number
+  Refused : ℕ → Number
 
 -- The third byte, at a place, where the first two give v: missing 1, its top bit set 3, a last byte of 0 2, above 65,535 3.
 unfoldable pub third : ℕ → ℕ → List ℕ → Number
@@ -29,6 +35,11 @@ number at (b ∷ s) = pick (ltb b 128) (Value b (at + 1)) (second (at + 1) (b - 
 
 unfoldable pub number_at : List ℕ → ℕ → Number
 number_at s at = number at (drop at s)
+
+-- What an answer of the code gives.
+abbrev pub given : Result Numeral Refusal → Number
+given (Ok n) = Value n.value n.next
+given (Err why) = Refused (number_of why)
 
 -- Document 01's number and values of an answer.
 abbrev pub told : Number → Told

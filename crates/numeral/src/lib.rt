@@ -2,14 +2,16 @@
 #![tactic(auto)]
 
 ghost use Rattle.std.specs.Prelude.{◌≡◌, ◌<◌, drop};
-ghost use Rattle.numeral.specs.Number.{third, second, number_at};
+ghost use Rattle.numeral.specs.Number.{given, third, second, number_at};
 ghost use Rattle.numeral.specs.NumberRules.{Bytes};
 
-// A number and the place after it, or the refusal.
-#[derive(Clone, Copy)]
-pub enum Number {
-    Value(u16, usize),
-    Refused(u8),
+use basis::Refusal;
+
+// A number, and the place after it.
+#[derive(Clone, Copy, Debug, PartialEq, Eq)]
+pub struct Numeral {
+    pub value: u16,
+    pub next: usize,
 }
 
 fn wide(b: u8) -> u32
@@ -19,55 +21,55 @@ fn wide(b: u8) -> u32
 }
 
 // The third byte of a number, where the first two give v.
-fn third_byte(s: &[u8], at: usize, v: u32) -> Number
+fn third_byte(s: &[u8], at: usize, v: u32) -> Result<Numeral, Refusal>
     requires { v < 16384 }
-    ensures { result ≡ third at v (drop at s.now) }
+    ensures { given result ≡ third at v (drop at s.now) }
 {
     if s.len() <= at {
-        return Number::Refused(1);
+        return Err(Refusal::EndsEarly);
     }
     let last = wide(s[at]);
     if 128 <= last {
-        return Number::Refused(3);
+        return Err(Refusal::TooLarge);
     }
     if last == 0 {
-        return Number::Refused(2);
+        return Err(Refusal::NotShortest);
     }
     let w = v + 16384 * last;
     if w <= 65535 {
-        return Number::Value(w as u16, at + 1);
+        return Ok(Numeral { value: w as u16, next: at + 1 });
     }
-    Number::Refused(3)
+    Err(Refusal::TooLarge)
 }
 
 // The second byte of a number, where the first gives v.
-fn second_byte(s: &[u8], at: usize, v: u32) -> Number
+fn second_byte(s: &[u8], at: usize, v: u32) -> Result<Numeral, Refusal>
     requires { v < 128 }
-    ensures { result ≡ second at v (drop at s.now) }
+    ensures { given result ≡ second at v (drop at s.now) }
 {
     if s.len() <= at {
-        return Number::Refused(1);
+        return Err(Refusal::EndsEarly);
     }
     let b = wide(s[at]);
     if b == 0 {
-        return Number::Refused(2);
+        return Err(Refusal::NotShortest);
     }
     if b < 128 {
-        return Number::Value((v + 128 * b) as u16, at + 1);
+        return Ok(Numeral { value: (v + 128 * b) as u16, next: at + 1 });
     }
     third_byte(s, at + 1, v + 128 * (b - 128))
 }
 
 // The number that starts at a place.
-pub fn read_number(s: &[u8], at: usize) -> Number
-    ensures { (result ≡ number_at s.now at) × Bytes s.now }
+pub fn read_number(s: &[u8], at: usize) -> Result<Numeral, Refusal>
+    ensures { (given result ≡ number_at s.now at) × Bytes s.now }
 {
     if s.len() <= at {
-        return Number::Refused(1);
+        return Err(Refusal::EndsEarly);
     }
     let b = wide(s[at]);
     if b < 128 {
-        return Number::Value(b as u16, at + 1);
+        return Ok(Numeral { value: b as u16, next: at + 1 });
     }
     second_byte(s, at + 1, b - 128)
 }

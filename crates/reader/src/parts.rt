@@ -1,32 +1,33 @@
 // The parts of a table, each read with the cursor: rows, fields, threads, the end.
 ghost use Rattle.std.specs.Prelude.{◌≡◌, ◌≤◌};
 ghost use Rattle.table.specs.Threads.{fields_in};
-ghost use Rattle.reader.specs.Reader.{row_from, rows_from, free, field_from, fields_from, threads_from, no_table, ended, read_of, told};
+ghost use Rattle.reader.specs.Reader.{standing, place_of, rows_of, fields_of, threads_of, row_from, rows_from, free, field_from, fields_from, threads_from, ended, read_of};
 
 use super::steps::{judge, next_number, read_ranged};
-use super::{Cursor, FieldsRead, Reading, RowsRead, ThreadsRead, Verdict};
+use super::{Cursor, Fault, FieldsRead, RowsRead, ThreadsRead};
+use basis::Refusal;
 use flow::row_passes;
 use table::{FIELDS, Table, Thread, field_range, fields_in, is_taken, make_thread, no_thread};
 
-fn read_row(s: &[u8], domains: u8, i: u8, c: Cursor) -> Cursor
-    ensures { result ≡ row_from s.now domains i c }
+fn read_row(s: &[u8], domains: u8, i: u8, c: Cursor) -> Result<Cursor, Fault>
+    ensures { place_of result ≡ row_from s.now domains i (standing c) }
 {
-    let n = next_number(s, c);
+    let n = next_number(s, c)?;
     let ok = row_passes(domains, i, n.value);
-    judge(n, ok, 6)
+    judge(n, ok, Refusal::Row)
 }
 
-pub fn read_rows(s: &[u8], domains: u8, c: Cursor) -> RowsRead
+pub fn read_rows(s: &[u8], domains: u8, c: Cursor) -> Result<RowsRead, Fault>
     requires { domains ≤ 16 }
-    ensures { result ≡ rows_from s.now domains c domains }
+    ensures { rows_of result (rows_from s.now domains (standing c) domains) }
 {
     let mut rows = [0u16; 16];
     let mut k = c;
     for i in 0..domains {
-        k = read_row(s, domains, i, k);
+        k = read_row(s, domains, i, k)?;
         rows[i as usize] = k.value;
     }
-    RowsRead { cursor: k, rows }
+    Ok(RowsRead { cursor: k, rows })
 }
 
 // Whether field k of thread i may have the value v: only a priority can be taken.
@@ -49,14 +50,14 @@ fn read_field(
     fields: [u16; FIELDS],
     k: u8,
     c: Cursor,
-) -> Cursor
+) -> Result<Cursor, Fault>
     requires { i ≤ 32 }
-    ensures { result ≡ field_from s.now version domains threads i fields k c }
+    ensures { place_of result ≡ field_from s.now version domains threads i fields k (standing c) }
 {
     let range = field_range(version, domains, fields, k);
-    let f = read_ranged(s, c, range, 8);
+    let f = read_ranged(s, c, range, Refusal::Field)?;
     let ok = is_free(threads, i, k, f.value);
-    judge(f, ok, 9)
+    judge(f, ok, Refusal::PriorityTaken)
 }
 
 fn read_fields(
@@ -66,50 +67,33 @@ fn read_fields(
     threads: [Thread; 32],
     i: u8,
     c: Cursor,
-) -> FieldsRead
+) -> Result<FieldsRead, Fault>
     requires { i ≤ 32 }
-    ensures { result ≡ fields_from s.now version domains threads i c (fields_in version) }
+    ensures { fields_of result (fields_from s.now version domains threads i (standing c) (fields_in version)) }
 {
     let mut fields = [0u16; FIELDS];
     let n = fields_in(version);
     let mut at = c;
     for k in 0..n {
-        at = read_field(s, version, domains, threads, i, fields, k, at);
+        at = read_field(s, version, domains, threads, i, fields, k, at)?;
         fields[k as usize] = at.value;
     }
-    FieldsRead { cursor: at, fields }
+    Ok(FieldsRead { cursor: at, fields })
 }
 
-fn read_threads(s: &[u8], version: u8, domains: u8, c: Cursor, count: u8) -> ThreadsRead
+fn read_threads(s: &[u8], version: u8, domains: u8, c: Cursor, count: u8) -> Result<ThreadsRead, Fault>
     requires { count ≤ 32 }
-    ensures { result ≡ threads_from s.now version domains c count }
+    ensures { threads_of result (threads_from s.now version domains (standing c) count) }
 {
     let z = no_thread();
     let mut threads = [z; 32];
     let mut k = c;
     for i in 0..count {
-        let r = read_fields(s, version, domains, threads, i, k);
-        let fields = r.fields;
+        let r = read_fields(s, version, domains, threads, i, k)?;
         k = r.cursor;
-        threads[i as usize] = make_thread(fields);
+        threads[i as usize] = make_thread(r.fields);
     }
-    ThreadsRead { cursor: k, threads }
-}
-
-pub fn refused_reading(verdict: Verdict) -> Reading
-    ensures { read_of result ≡ record { told = told verdict; table = no_table } }
-{
-    let z = no_thread();
-    Reading {
-        verdict,
-        table: Table {
-            version: 0,
-            domains: 0,
-            count: 0,
-            rows: [0u16; 16],
-            threads: [z; 32],
-        },
-    }
+    Ok(ThreadsRead { cursor: k, threads })
 }
 
 // The threads, and the end of the bytes.
@@ -120,27 +104,22 @@ pub fn read_rest(
     count: u8,
     rows: [u16; 16],
     c: Cursor,
-) -> Reading
+) -> Result<Table, Fault>
     requires { count ≤ 32 }
-    ensures { read_of result ≡ ended s.now version domains count rows (threads_from s.now version domains c count) }
+    ensures { read_of result ≡ ended s.now version domains count rows (threads_from s.now version domains (standing c) count) }
 {
-    let t = read_threads(s, version, domains, c, count);
-    let threads = t.threads;
-    let after = t.cursor;
-    if after.refusal != 0 {
-        return refused_reading(Verdict::Refused(after.refusal, after.start));
+    let ThreadsRead { cursor, threads } = read_threads(s, version, domains, c, count)?;
+    if cursor.next < s.len() {
+        return Err(Fault {
+            why: Refusal::Extra,
+            place: cursor.next,
+        });
     }
-    if after.next < s.len() {
-        return refused_reading(Verdict::Refused(10, after.next));
-    }
-    Reading {
-        verdict: Verdict::Accepted,
-        table: Table {
-            version,
-            domains,
-            count,
-            rows,
-            threads,
-        },
-    }
+    Ok(Table {
+        version,
+        domains,
+        count,
+        rows,
+        threads,
+    })
 }

@@ -1,60 +1,41 @@
-// The sticky cursor: after a refusal nothing more is read, so the leftmost fault wins.
+// One number: after a refusal nothing more is read, so the leftmost fault wins.
 ghost use Rattle.std.specs.Prelude.{◌≡◌};
-ghost use Rattle.reader.specs.Reader.{bad, number_from, judged, ranged};
+ghost use Rattle.reader.specs.Reader.{standing, place_of, number_from, judged, ranged};
+ghost use Rattle.basis.specs.Refusals.{number};
 
-use super::Cursor;
-use numeral::{Number, read_number};
+use super::{Cursor, Fault};
+use basis::Refusal;
+use numeral::{Numeral, read_number};
 use table::{Range, in_range};
 
-fn refuse(why: u8, start: usize) -> Cursor
-    ensures { result ≡ bad why start }
+// The next number.
+pub fn next_number(s: &[u8], c: Cursor) -> Result<Cursor, Fault>
+    ensures { place_of result ≡ number_from s.now (standing c) }
 {
-    Cursor {
-        refusal: why,
-        start,
-        next: start,
-        value: 0,
-    }
-}
-
-// The next number; after a refusal nothing more is read.
-pub fn next_number(s: &[u8], c: Cursor) -> Cursor
-    ensures { result ≡ number_from s.now c }
-{
-    if c.refusal != 0 {
-        return refuse(c.refusal, c.start);
-    }
-    let at = c.next;
-    let n = read_number(s, at);
-    match n {
-        Number::Value(value, next) => Cursor {
-            refusal: 0,
-            start: at,
-            next,
-            value,
-        },
-        Number::Refused(why) => refuse(why, at),
+    let start = c.next;
+    match read_number(s, start) {
+        Ok(Numeral { value, next }) => Ok(Cursor { start, next, value }),
+        Err(why) => Err(Fault { why, place: start }),
     }
 }
 
 // The number just read is refused unless it passes.
-pub fn judge(c: Cursor, ok: bool, why: u8) -> Cursor
-    ensures { result ≡ judged c ok why }
+pub fn judge(c: Cursor, ok: bool, why: Refusal) -> Result<Cursor, Fault>
+    ensures { place_of result ≡ judged (standing c) ok (number why) }
 {
-    let met = c.refusal;
-    if met != 0 {
-        return refuse(met, c.start);
-    }
     if ok {
-        return c;
+        return Ok(c);
     }
-    refuse(why, c.start)
+    Err(Fault {
+        why,
+        place: c.start,
+    })
 }
 
-pub fn read_ranged(s: &[u8], c: Cursor, range: Range, why: u8) -> Cursor
-    ensures { result ≡ ranged s.now c range why }
+pub fn read_ranged(s: &[u8], c: Cursor, range: Range, why: Refusal) -> Result<Cursor, Fault>
+    ensures { place_of result ≡ ranged s.now (standing c) range (number why) }
 {
-    let n = next_number(s, c);
+    let n = next_number(s, c)?;
     let ok = in_range(range, n.value);
     judge(n, ok, why)
 }

@@ -1,10 +1,10 @@
 -- Printing a line into a lent buffer from a place on.
-use Rattle.std.specs.Prelude.{ℕ, ◌+◌, List, [], ◌∷◌, length, leb}
+use Rattle.std.specs.Prelude.{ℕ, ◌+◌, List, [], ◌∷◌, length, leb, Result}
 use Rattle.basis.specs.Tests.{pick}
 use Rattle.basis.specs.Told.{Told, answered, refused}
 use Rattle.writer.specs.Writer.{overlaid}
-use Rattle.report.specs.declared.Printing.{Printing}
-use Rattle.report.specs.declared.Printing.TheVariants.{Printed, NoRoom}
+use Rattle.basis.specs.Refusals.{told_number}
+use Rattle.basis.specs.declared.refusal.Refusal.{Refusal}
 
 -- 16 where the text has no room from the place on; else the place after it.
 unfoldable pub printing : List ℕ → ℕ → List ℕ → Told
@@ -15,6 +15,5 @@ unfoldable pub printed : List ℕ → ℕ → List ℕ → List ℕ
 printed b at text = pick (leb (at + length text) (length b)) (overlaid b at text) b
 
 -- Document 01's number and values of an answer.
-abbrev pub told : Printing → Told
-told (Printed next) = answered (next ∷ [])
-told NoRoom = refused 16
+abbrev pub told : Result ℕ Refusal → Told
+told r = told_number r

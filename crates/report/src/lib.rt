@@ -8,18 +8,12 @@ ghost use Rattle.report.specs.Printing.{told, printing, printed};
 
 mod text;
 
+use basis::Refusal;
 use decimal::put_number;
 use text::{lay, print_counted, put, put_line};
 
-// Printed up to before a place, or too little room.
-#[derive(Clone, Copy)]
-pub enum Printing {
-    Printed(usize),
-    NoRoom,
-}
-
 // How many threads the table has.
-pub fn print_threads(buf: &mut [u8], at: usize, threads: u8) -> Printing
+pub fn print_threads(buf: &mut [u8], at: usize, threads: u8) -> Result<usize, Refusal>
     ensures { (told result ≡ printing buf.old at (threads_line threads)) × (buf.new ≡ printed buf.old at (threads_line threads)) }
 {
     print_counted(buf, at, b"threads ", threads as u64)
@@ -40,14 +34,14 @@ pub fn print_trace(buf: &mut [u8], at: usize, clock: u32, trace: &[u8]) -> usize
 }
 
 // How many steps were done.
-pub fn print_end(buf: &mut [u8], at: usize, steps: u32) -> Printing
+pub fn print_end(buf: &mut [u8], at: usize, steps: u32) -> Result<usize, Refusal>
     ensures { (told result ≡ printing buf.old at (end_line steps)) × (buf.new ≡ printed buf.old at (end_line steps)) }
 {
     print_counted(buf, at, b"end ", steps as u64)
 }
 
 // A refusal's number, and the place in the table's bytes or the clock.
-pub fn print_refused(buf: &mut [u8], at: usize, number: u8, place: u64) -> Printing
+pub fn print_refused(buf: &mut [u8], at: usize, number: u8, place: u64) -> Result<usize, Refusal>
     ensures { (told result ≡ printing buf.old at (refused_line number place)) × (buf.new ≡ printed buf.old at (refused_line number place)) }
 {
     let mut text = [0u8; 64];

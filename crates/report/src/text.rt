@@ -5,7 +5,7 @@ ghost use Rattle.decimal.specs.Decimal.{decimal};
 ghost use Rattle.report.specs.Lines.{answer, choice, counted_line, step_line};
 ghost use Rattle.report.specs.Printing.{told, printing, printed};
 
-use crate::Printing;
+use basis::Refusal;
 use decimal::{put_byte, put_number};
 
 pub fn put(buf: &mut [u8], at: usize, text: &[u8]) -> usize
@@ -54,22 +54,21 @@ pub fn put_line(buf: &mut [u8], at: usize, clock: u32, b: u8) -> usize
 }
 
 // All of the text from the place at on, or nothing of it.
-pub fn lay(buf: &mut [u8], at: usize, text: &[u8]) -> Printing
+pub fn lay(buf: &mut [u8], at: usize, text: &[u8]) -> Result<usize, Refusal>
     ensures { (told result ≡ printing buf.old at text.now) × (buf.new ≡ printed buf.old at text.now) }
 {
     let len = buf.len();
     if len < at {
-        return Printing::NoRoom;
+        return Err(Refusal::NoRoom);
     }
     if len - at < text.len() {
-        return Printing::NoRoom;
+        return Err(Refusal::NoRoom);
     }
-    let next = put(buf, at, text);
-    Printing::Printed(next)
+    Ok(put(buf, at, text))
 }
 
 // A line of a word and a number.
-pub fn print_counted(buf: &mut [u8], at: usize, word: &[u8], n: u64) -> Printing
+pub fn print_counted(buf: &mut [u8], at: usize, word: &[u8], n: u64) -> Result<usize, Refusal>
     requires { length word.now ≤ 8 }
     ensures { (told result ≡ printing buf.old at (counted_line word.now n)) × (buf.new ≡ printed buf.old at (counted_line word.now n)) }
 {

@@ -1,7 +1,8 @@
 -- A call of the step: the number it is refused with, in the order 11, 19, 12, 13, 18, 14, or the step itself.
-use Rattle.std.specs.Prelude.{ℕ, List, [], ◌∷◌, Bool, not, length, eqb, ltb}
+use Rattle.std.specs.Prelude.{ℕ, List, [], ◌∷◌, Bool, not, length, eqb, ltb, Result}
 use Rattle.basis.specs.Tests.{pick, and, or, every}
 use Rattle.basis.specs.Told.{Told, answered, refused}
+use Rattle.basis.specs.Refusals.{told_by}
 use Rattle.table.specs.Threads.{thread}
 use Rattle.table.specs.Legal.{legal}
 use Rattle.table.specs.declared.Table.{Table}
@@ -13,8 +14,7 @@ use Rattle.state.specs.declared.State.{State}
 use Rattle.walk.specs.declared.Answer.{Answer}
 use Rattle.walk.specs.declared.Answer.TheVariants.{Ran, IdleFor, Idle}
 use Rattle.walk.specs.declared.Walked.{Walked}
-use Rattle.scheduler.specs.declared.Outcome.{Outcome}
-use Rattle.scheduler.specs.declared.Outcome.TheVariants.{Chose, Refused}
+use Rattle.basis.specs.declared.refusal.Refusal.{Refusal}
 use Rattle.scheduler.specs.declared.Stepped.{Stepped}
 
 -- The values of an answer: 0 and the thread that ran, 1 and the thread that the processor idles for, 2 for idle.
@@ -30,9 +30,8 @@ answer_of (kind ∷ []) = Idle
 answer_of (kind ∷ i ∷ more) = pick (eqb kind 0) (Ran i) (IdleFor i)
 
 -- Document 01's number and values of an outcome.
-abbrev pub told : Outcome → Told
-told (Chose a) = answered (values a)
-told (Refused why) = refused why
+abbrev pub told : Result Answer Refusal → Told
+told r = told_by values r
 
 -- What a call gives: its number and values, and a state.
 pub record Taken : Type 0 where

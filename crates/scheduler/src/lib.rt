@@ -1,8 +1,9 @@
 // The scheduler: one step from every fitting state, in a frame or without, or the number that refuses it.
 #![tactic(auto)]
 
-ghost use Rattle.std.specs.Prelude.{◌≡◌, [], ◌<◌, ◌≤◌, eqb, ltb, not};
+ghost use Rattle.std.specs.Prelude.{◌≡◌, ◌<◌, ◌≤◌, eqb, ltb, not};
 ghost use Rattle.basis.specs.Tests.{and, or};
+ghost use Rattle.basis.specs.Refusals.{refused_by};
 ghost use Rattle.state.specs.Release.{has_event};
 ghost use Rattle.table.specs.Threads.{thread};
 ghost use Rattle.state.specs.Given.{Usable};
@@ -11,33 +12,30 @@ ghost use Rattle.frame.specs.Mode.{unframed, framed};
 ghost use Rattle.walk.specs.Step.{advance};
 ghost use Rattle.scheduler.specs.Taken.{mask_ok, taken_then, taken, taken_of};
 
+use basis::Refusal;
 pub use frame::{Frame, Window};
 use frame::{domain_at, frame_passes};
 use state::has_event;
-pub use state::{Progress, Started, Starting, State, fits, fresh};
+pub use state::{Progress, State, fits, fresh};
 use table::{Table, legal};
 pub use walk::Answer;
 use walk::{Prepared, advance, narrow, prepare};
 
-// A step's answer, or the number of its refusal.
-#[derive(Clone, Copy)]
-pub enum Outcome {
-    Chose(Answer),
-    Refused(u8),
-}
+// A step's answer, or why it is refused.
+pub type Outcome = Result<Answer, Refusal>;
 
 // On a refusal the state is the one that was handed in.
-#[derive(Clone, Copy)]
+#[derive(Clone, Copy, Debug, PartialEq, Eq)]
 pub struct Stepped {
     pub outcome: Outcome,
     pub state: State,
 }
 
-fn refuse(why: u8, s: State) -> Stepped
-    ensures { taken_of result ≡ record { told = record { number = why; values = [] }; state = s } }
+fn refuse(why: Refusal, s: State) -> Stepped
+    ensures { taken_of result ≡ record { told = refused_by why; state = s } }
 {
     Stepped {
-        outcome: Outcome::Refused(why),
+        outcome: Err(why),
         state: s,
     }
 }
@@ -87,22 +85,22 @@ fn step_over(t: Table, p: Prepared, s: State, mask: u32, bytes: &[u8]) -> Steppe
     ensures { taken_of result ≡ taken_then t (advance t p.marks (ranked p.order) (record { mask = mask; bytes = bytes.now }) s) (record { mask = mask; bytes = bytes.now }) s }
 {
     if !fits(t, s) {
-        return refuse(12, s);
+        return refuse(Refusal::NotFitting, s);
     }
     if bytes.len() != t.count as usize {
-        return refuse(13, s);
+        return refuse(Refusal::StepBytes, s);
     }
     if !mask_passes(t, mask) {
-        return refuse(18, s);
+        return refuse(Refusal::EventMask, s);
     }
     if END_CLOCK <= s.clock {
-        return refuse(14, s);
+        return refuse(Refusal::LastClock, s);
     }
     let w = advance(t, p, s, mask, bytes);
     let a = w.answer;
     let next = w.state;
     Stepped {
-        outcome: Outcome::Chose(a),
+        outcome: Ok(a),
         state: next,
     }
 }
@@ -112,7 +110,7 @@ pub fn step(t: Table, s: State, mask: u32, bytes: &[u8]) -> Stepped
     ensures { taken_of result ≡ taken t unframed (record { mask = mask; bytes = bytes.now }) s }
 {
     if !legal(t) {
-        return refuse(11, s);
+        return refuse(Refusal::NotLegal, s);
     }
     let p = prepare(t);
     step_over(t, p, s, mask, bytes)
@@ -123,10 +121,10 @@ pub fn step_in_frame(t: Table, f: Frame, s: State, mask: u32, bytes: &[u8]) -> S
     ensures { taken_of result ≡ taken t (framed f) (record { mask = mask; bytes = bytes.now }) s }
 {
     if !legal(t) {
-        return refuse(11, s);
+        return refuse(Refusal::NotLegal, s);
     }
     if !frame_passes(t, f) {
-        return refuse(19, s);
+        return refuse(Refusal::Frame, s);
     }
     let all = prepare(t);
     let d = domain_at(f, s.clock);

@@ -8,7 +8,7 @@ use lib.Seq.{take-length, drop-length, take-append_seam, drop-append_seam, get_o
 use Rattle.basis.specs.Told.{Told, answered, refused}
 use Rattle.numeral.specs.Number.{number_at, encode, encode_all}
 use Rattle.numeral.specs.NumberRules.{first-missing}
-use Rattle.numeral.specs.declared.Number.TheVariants.{Value}
+use Rattle.numeral.specs.Number.{Value}
 use Rattle.numeral.proofs.NumberLaws.{number-encode, encode_all-append}
 use Rattle.numeral.proofs.RuleLaws.{number_exactly}
 use Rattle.reader.specs.Reader.{reading}

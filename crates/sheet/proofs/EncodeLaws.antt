@@ -10,7 +10,7 @@ use lib.Dec.{ltb}
 use borrow.Author.Tests.{ltb-true, ltb-false, lt-ltb, le-ltb}
 use Rattle.basis.specs.Tests.{pick}
 use Rattle.basis.proofs.TestLaws.{by_test}
-use Rattle.numeral.specs.declared.Number.TheVariants.{Value}
+use Rattle.numeral.specs.Number.{Value}
 use Rattle.numeral.specs.Number.{number, encode, encode_all}
 use Rattle.numeral.specs.NumberRules.{Bytes}
 use Rattle.numeral.proofs.NumberLaws.{encode_one, encode-two, encode-three, encode-some, number-encode}

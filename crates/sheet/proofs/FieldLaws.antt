@@ -10,7 +10,7 @@ use borrow.Author.Tests.{le-leb, lt-leb, leb-true, ltb-true, ltb-false, lt-ltb, 
 use Rattle.basis.specs.Tests.{pick, and}
 use Rattle.basis.proofs.TestLaws.{by_test, and_both, or-true}
 use Rattle.basis.proofs.ListLaws.{drop-some}
-use Rattle.numeral.specs.declared.Number.TheVariants.{Value, Refused}
+use Rattle.numeral.specs.Number.{Value, Refused}
 use Rattle.sheet.specs.Field.{field_ends, field, is_digit, all_digits, zero_first, value_from, judged_digits, field_number, field_at, at_most}
 
 -- The end of a text ends a field.

@@ -10,8 +10,8 @@ use lib.Dec.{eqb, ltb}
 use borrow.Author.Tests.{ltb-true, ltb-false, lt-ltb, le-ltb, eqb-true, eqb-false, eq-eqb, ne_eqb, not-true, not-false}
 use Rattle.basis.specs.Tests.{pick, or}
 use Rattle.basis.proofs.TestLaws.{by_test, either, or_left, or_right, or-true}
-use Rattle.numeral.specs.declared.Number.{Number}
-use Rattle.numeral.specs.declared.Number.TheVariants.{Value, Refused}
+use Rattle.numeral.specs.Number.{Number}
+use Rattle.numeral.specs.Number.{Value, Refused}
 use Rattle.sheet.specs.Field.{field_ends, field, all_digits, zero_first, value_from, judged_digits, field_number, field_at}
 use Rattle.sheet.specs.SheetJudging.{Cut, NoField, empty, text_ends, padded, strange, too_large, FieldValue, stands}
 use Rattle.sheet.proofs.FieldLaws.{field_nil, field-front, field-short, field_stops}

@@ -11,8 +11,8 @@ use borrow.Author.Tests.{le-ltb, eqb-true, ne_eqb}
 use Rattle.basis.specs.Tests.{pick, and, or}
 use Rattle.basis.proofs.TestLaws.{by_test, and_both}
 use Rattle.basis.proofs.ListLaws.{drop-some}
-use Rattle.numeral.specs.declared.Number.{Number}
-use Rattle.numeral.specs.declared.Number.TheVariants.{Value, Refused}
+use Rattle.numeral.specs.Number.{Number}
+use Rattle.numeral.specs.Number.{Value, Refused}
 use Rattle.numeral.proofs.Runs.{Reads}
 use Rattle.decimal.specs.Decimal.{decimal}
 use Rattle.sheet.specs.Field.{line_feeds, field_ends, field, value_from, judged_digits, field_number, field_at, Inside}

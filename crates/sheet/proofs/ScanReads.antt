@@ -16,8 +16,8 @@ use Rattle.basis.proofs.TestLaws.{by_test, refuted, and-of, and-false}
 use Rattle.flow.specs.Gap.{Triple, gap_told}
 use Rattle.table.specs.declared.Table.{Table}
 use Rattle.numeral.specs.Number.{encode_all}
-use Rattle.numeral.specs.declared.Number.{Number}
-use Rattle.numeral.specs.declared.Number.TheVariants.{Value, Refused}
+use Rattle.numeral.specs.Number.{Number}
+use Rattle.numeral.specs.Number.{Value, Refused}
 use Rattle.reader.specs.declared.Verdict.{Verdict}
 use Rattle.reader.specs.declared.Verdict.TheVariants.{Accepted, Refused as No, Intransitive}
 use Rattle.reader.specs.declared.Reading.{Reading}

@@ -10,8 +10,8 @@ use lib.Seq.{take-length}
 use Rattle.basis.specs.Told.{Told, answered}
 use Rattle.table.specs.Legal.{Legal}
 use Rattle.table.specs.declared.Table.{Table}
-use Rattle.numeral.specs.declared.Number.{Number}
-use Rattle.numeral.specs.declared.Number.TheVariants.{Refused}
+use Rattle.numeral.specs.Number.{Number}
+use Rattle.numeral.specs.Number.{Refused}
 use Rattle.numeral.specs.Number.{number_at, encode_all}
 use Rattle.numeral.specs.NumberRules.{Bytes, NoNumber}
 use Rattle.numeral.proofs.NumberLaws.{ToldWhy, number_why}

@@ -13,8 +13,8 @@ use Rattle.basis.specs.Search.{Sought, nothing, found}
 use Rattle.flow.specs.Gap.{Triple, first_gap, gap_told}
 use Rattle.table.specs.Ranges.{domain_counts, thread_counts}
 use Rattle.table.proofs.RangeLaws.{by_fields, within_high}
-use Rattle.numeral.specs.declared.Number.{Number}
-use Rattle.numeral.specs.declared.Number.TheVariants.{Value, Refused}
+use Rattle.numeral.specs.Number.{Number}
+use Rattle.numeral.specs.Number.{Value, Refused}
 use Rattle.codec.specs.Judging.{fault, row_gap, objection, wanted}
 use Rattle.codec.proofs.BeforeLaws.{before_counts}
 use Rattle.codec.proofs.JudgedSteps.{gap-objection}

@@ -12,8 +12,8 @@ use borrow.Author.Tests.{ltb-true, ltb-false, lt-ltb, le-ltb, eq-eqb, ne_eqb}
 use Rattle.basis.specs.Tests.{pick}
 use Rattle.basis.specs.Told.{Told, answered}
 use Rattle.basis.proofs.TestLaws.{by_test, refuted}
-use Rattle.numeral.specs.declared.Number.{Number}
-use Rattle.numeral.specs.declared.Number.TheVariants.{Value, Refused}
+use Rattle.numeral.specs.Number.{Number}
+use Rattle.numeral.specs.Number.{Value, Refused}
 use Rattle.decimal.specs.Decimal.{decimal}
 use Rattle.codec.specs.Judging.{fault, row_gap, objection, wanted}
 use Rattle.codec.proofs.BeforeLaws.{unfaulted}

@@ -1,8 +1,8 @@
 -- A field of the comma form: the characters up to a comma, a CRLF or the end of text, and the number that they are.
 use Rattle.std.specs.Prelude.{ℕ, ◌+◌, ◌-◌, ◌*◌, ◌<◌, List, [], ◌∷◌, Bool, true, false, not, length, drop, eqb, ltb, leb}
 use Rattle.basis.specs.Tests.{pick, and, or}
-use Rattle.numeral.specs.declared.Number.{Number}
-use Rattle.numeral.specs.declared.Number.TheVariants.{Value, Refused}
+use Rattle.numeral.specs.Number.{Number}
+use Rattle.numeral.specs.Number.{Value, Refused}
 
 -- The text starts with LF.
 abbrev pub line_feeds : List ℕ → Bool

@@ -3,8 +3,8 @@
 use Rattle.std.specs.Prelude.{ℕ, zero, suc, ◌+◌, List, [], ◌∷◌, Bool, true, false, not, length, set, take, replicate, eqb, ltb}
 use Rattle.basis.specs.Tests.{pick, and}
 use Rattle.numeral.specs.Number.{encode_all}
-use Rattle.numeral.specs.declared.Number.{Number}
-use Rattle.numeral.specs.declared.Number.TheVariants.{Value, Refused}
+use Rattle.numeral.specs.Number.{Number}
+use Rattle.numeral.specs.Number.{Value, Refused}
 use Rattle.flow.specs.Gap.{Triple}
 use Rattle.table.specs.declared.Table.{Table}
 use Rattle.reader.specs.declared.Verdict.{Verdict}

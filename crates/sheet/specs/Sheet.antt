@@ -5,8 +5,8 @@ use Rattle.basis.specs.Told.{Told, answered, refused}
 use Rattle.table.specs.Threads.{field_count}
 use Rattle.table.specs.declared.Table.{Table}
 use Rattle.numeral.specs.Number.{encode_all}
-use Rattle.numeral.specs.declared.Number.{Number}
-use Rattle.numeral.specs.declared.Number.TheVariants.{Value, Refused}
+use Rattle.numeral.specs.Number.{Number}
+use Rattle.numeral.specs.Number.{Value, Refused}
 use Rattle.reader.specs.Reader.{Read, no_table, reading}
 use Rattle.codec.specs.Judging.{fault, row_gap, wanted}
 use Rattle.sheet.specs.Field.{field_at}

@@ -1,5 +1,5 @@
 -- What a domain is shown of an answer and of a state.
-use Rattle.std.specs.Prelude.{ℕ, List, [], ◌∷◌, Bool, replicate, ltb}
+use Rattle.std.specs.Prelude.{ℕ, List, [], ◌∷◌, Bool, replicate, ltb, Option, Result, option_to_list}
 use Rattle.basis.specs.Tests.{pick, and}
 use Rattle.basis.specs.Search.{listed}
 use Rattle.basis.specs.Told.{Told, answered, refused}
@@ -11,10 +11,8 @@ use Rattle.state.specs.declared.Progress.{Progress}
 use Rattle.state.specs.declared.State.{State}
 use Rattle.walk.specs.declared.Answer.{Answer}
 use Rattle.walk.specs.declared.Answer.TheVariants.{Ran, IdleFor, Idle}
-use Rattle.sight.specs.declared.View.{View}
-use Rattle.sight.specs.declared.View.TheVariants.{Thread, Gap, NotLegal, NoDomain}
-use Rattle.sight.specs.declared.Showing.{Showing}
-use Rattle.sight.specs.declared.Showing.TheVariants.{Done, NotLegal as IllegalTable, NotFitting, NoDomain as NoSuchDomain}
+use Rattle.basis.specs.Refusals.{told_by, told_done, given_or}
+use Rattle.basis.specs.declared.refusal.Refusal.{Refusal}
 
 -- i is a thread of the table whose domain may flow to d.
 unfoldable pub visible : Table → ℕ → ℕ → Bool
@@ -31,11 +29,12 @@ unfoldable pub showing : Table → ℕ → Answer → Told
 showing t d a = pick (legal t) (pick (ltb d t.domains) (view t d a) (refused 15)) (refused 11)
 
 -- Document 01's number and values of what is shown.
-abbrev pub told : View → Told
-told (Thread i) = answered (i ∷ [])
-told Gap = answered []
-told NotLegal = refused 11
-told NoDomain = refused 15
+abbrev pub told : Result (Option ℕ) Refusal → Told
+told r = told_by option_to_list r
+
+-- A thread, or a gap.
+abbrev pub told_view : Option ℕ → Told
+told_view v = answered (option_to_list v)
 
 -- Thread i's rests, mark and count if d may see it, and zeros otherwise; its steps since release follow from the public masks and are not
 -- shown.
@@ -58,8 +57,9 @@ threads_shown t s d =
     (replicate 32 no_progress)
 
 -- Document 01's number of an answer.
-abbrev pub told_state : Showing → Told
-told_state Done = answered []
-told_state IllegalTable = refused 11
-told_state NotFitting = refused 12
-told_state NoSuchDomain = refused 15
+abbrev pub told_state : Result (List Progress) Refusal → Told
+told_state r = told_done r
+
+-- What an answer gives beside.
+abbrev pub given : Result (List Progress) Refusal → List Progress
+given r = given_or (replicate 32 no_progress) r

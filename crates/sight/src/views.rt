@@ -1,6 +1,6 @@
 // What a domain may see.
 ghost use Rattle.std.specs.Prelude.{◌≡◌, ◌<◌, ◌≤◌};
-ghost use Rattle.sight.specs.Shown.{visible, view as the_view, told, seen_progress, seen_threads};
+ghost use Rattle.sight.specs.Shown.{visible, view as the_view, told_view, seen_progress, seen_threads};
 
 use super::View;
 use flow::may_flow;
@@ -24,17 +24,17 @@ pub fn is_visible(t: Table, d: u8, i: u8) -> bool
 // The thread that ran, if d may see it, or a gap.
 pub fn view(t: Table, d: u8, a: Answer) -> View
     requires { t.count ≤ 32 }
-    ensures { told result ≡ the_view t d a }
+    ensures { told_view result ≡ the_view t d a }
 {
     match a {
         Answer::Ran(i) => {
             if is_visible(t, d, i) {
-                return View::Thread(i);
+                return Some(i);
             }
-            View::Gap
+            None
         }
-        Answer::IdleFor(_) => View::Gap,
-        Answer::Idle => View::Gap,
+        Answer::IdleFor(_) => None,
+        Answer::Idle => None,
     }
 }
 

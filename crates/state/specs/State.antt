@@ -1,16 +1,16 @@
 -- The state: a clock, and for each thread the rest of its budget, its rest of execution, a finish mark, a count of steps run and, where it
 -- is released by events, its steps since release.
-use Rattle.std.specs.Prelude.{ℕ, zero, suc, ◌-◌, ◌≤◌, ◌<◌, ◌≡◌, [], ◌++◌, Bool, false, not, length, get_or, set, replicate, eqb, ltb, leb}
+use Rattle.std.specs.Prelude.{ℕ, zero, suc, ◌-◌, ◌≤◌, ◌<◌, ◌≡◌, [], ◌++◌, Bool, false, not, length, get_or, set, replicate, eqb, ltb, leb, Result}
 use Rattle.basis.specs.Tests.{pick, and, every}
 use Rattle.basis.specs.Search.{listed}
 use Rattle.basis.specs.Told.{Told, answered, refused}
+use Rattle.basis.specs.Refusals.{told_done, given_or}
 use Rattle.table.specs.Threads.{thread}
 use Rattle.table.specs.Legal.{legal}
 use Rattle.table.specs.declared.Table.{Table}
 use Rattle.table.specs.declared.Thread.{Thread}
 use Rattle.state.specs.declared.Progress.{Progress}
-use Rattle.state.specs.declared.Starting.{Starting}
-use Rattle.state.specs.declared.Starting.TheVariants.{Done, NotLegal}
+use Rattle.basis.specs.declared.refusal.Refusal.{Refusal}
 use Rattle.state.specs.declared.State.{State}
 
 -- A progress is written out here only: what stands in a place that is not in use, zero and unmarked, and one with another value for a field.
@@ -60,15 +60,18 @@ unfoldable pub fresh : Table → State
 fresh t = record { clock = 0; threads = listed t.count (ready t) ++ replicate (32 - t.count) no_progress }
 
 -- `fresh` of a table: 11 where it is not legal, and then all zero.
-abbrev pub told : Starting → Told
-told Done = answered []
-told NotLegal = refused 11
+abbrev pub told : Result State Refusal → Told
+told r = told_done r
 
 unfoldable pub starting : Table → Told
 starting t = pick (legal t) (answered []) (refused 11)
 
 unfoldable pub fresh_given : Table → State
 fresh_given t = pick (legal t) (fresh t) no_state
+
+-- What an answer of the code gives beside.
+abbrev pub given : Result State Refusal → State
+given r = given_or no_state r
 
 -- The last clock: a step is refused there.
 abbrev pub last_clock : ℕ

@@ -2,8 +2,9 @@
 #![tactic(auto)]
 
 ghost use Rattle.std.specs.Prelude.{◌≡◌};
-ghost use Rattle.state.specs.State.{told, starting, fresh_given};
+ghost use Rattle.state.specs.State.{told, given, starting, fresh_given};
 
+use basis::Refusal;
 use table::{Table, legal};
 
 mod fit;
@@ -17,7 +18,7 @@ pub use release::has_event;
 
 // The rest of a thread's budget, its rest of execution, its finish mark, its count of steps run, and an event thread's steps since
 // its release.
-#[derive(Clone, Copy)]
+#[derive(Clone, Copy, Debug, PartialEq, Eq)]
 pub struct Progress {
     pub rest: u16,
     pub execution: u16,
@@ -27,37 +28,18 @@ pub struct Progress {
 }
 
 // Steps done, and the progress of each thread.
-#[derive(Clone, Copy)]
+#[derive(Clone, Copy, Debug, PartialEq, Eq)]
 pub struct State {
     pub clock: u32,
     pub threads: [Progress; 32],
 }
 
-#[derive(Clone, Copy)]
-pub enum Starting {
-    Done,
-    NotLegal,
-}
-
-// The state is all zero on a refusal.
-#[derive(Clone, Copy)]
-pub struct Started {
-    pub answer: Starting,
-    pub state: State,
-}
-
-// The state before the first step of a table, or 11.
-pub fn fresh(t: Table) -> Started
-    ensures { (told result.answer ≡ starting t) × (result.state ≡ fresh_given t) }
+// The state before the first step of a table; refuses with 11.
+pub fn fresh(t: Table) -> Result<State, Refusal>
+    ensures { (told result ≡ starting t) × (given result ≡ fresh_given t) }
 {
     if !legal(t) {
-        return Started {
-            answer: Starting::NotLegal,
-            state: start::no_state(),
-        };
+        return Err(Refusal::NotLegal);
     }
-    Started {
-        answer: Starting::Done,
-        state: start::fresh_state(t),
-    }
+    Ok(start::fresh_state(t))
 }

@@ -1,22 +1,11 @@
 // The state before the first step.
 ghost use Rattle.std.specs.Prelude.{◌≡◌, ◌≤◌};
-ghost use Rattle.state.specs.State.{no_state, with_since, longest_since, no_progress, fresh};
+ghost use Rattle.state.specs.State.{with_since, longest_since, no_progress, fresh};
 
 use super::fit::longest_since;
 use super::methods::no_progress;
 use super::{Progress, State};
 use table::{Table, Thread};
-
-// All zero.
-pub fn no_state() -> State
-    ensures { result ≡ no_state }
-{
-    let none = no_progress();
-    State {
-        clock: 0,
-        threads: [none; 32],
-    }
-}
 
 // A thread's progress before the first step.
 fn ready(th: Thread) -> Progress

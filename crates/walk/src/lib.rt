@@ -18,7 +18,7 @@ mod visits;
 use visits::walk;
 
 // What a step chose: a thread that ran, a thread on whose account the processor idled, or nobody.
-#[derive(Clone, Copy)]
+#[derive(Clone, Copy, Debug, PartialEq, Eq)]
 pub enum Answer {
     Ran(u8),
     IdleFor(u8),
@@ -26,14 +26,14 @@ pub enum Answer {
 }
 
 // What a walk gives: its answer, and the state behind it.
-#[derive(Clone, Copy)]
+#[derive(Clone, Copy, Debug, PartialEq, Eq)]
 pub struct Walked {
     pub answer: Answer,
     pub state: State,
 }
 
 // What a table's steps need and share: the order of the walk and the leak marks.
-#[derive(Clone, Copy)]
+#[derive(Clone, Copy, Debug, PartialEq, Eq)]
 pub struct Prepared {
     pub order: Ranks,
     pub marks: [Mark; 32],

@@ -49,7 +49,7 @@ fn decide(marks: [Mark; 32], s: State, i: u8, b: u8) -> Walked
         };
     }
     let mark = marks[i as usize];
-    if mark.set {
+    if mark.is_some() {
         return Walked {
             answer: Answer::IdleFor(i),
             state: paid,

@@ -1,11 +1,11 @@
 -- Writing a table into a lent buffer from a place on.
-use Rattle.std.specs.Prelude.{ℕ, ◌+◌, ◌≤◌, ◌<◌, ◌≡◌, List, [], ◌∷◌, ◌++◌, length, get_or, take, drop, leb}
+use Rattle.std.specs.Prelude.{ℕ, ◌+◌, ◌≤◌, ◌<◌, ◌≡◌, List, [], ◌∷◌, ◌++◌, length, get_or, take, drop, leb, Result}
 use Rattle.basis.specs.Tests.{pick}
 use Rattle.basis.specs.Told.{Told, answered, refused}
 use Rattle.table.specs.Legal.{legal}
 use Rattle.table.specs.declared.Table.{Table}
-use Rattle.writer.specs.declared.Writing.{Writing}
-use Rattle.writer.specs.declared.Writing.TheVariants.{Written, NotLegal, NoRoom}
+use Rattle.basis.specs.Refusals.{told_number}
+use Rattle.basis.specs.declared.refusal.Refusal.{Refusal}
 use Rattle.writer.specs.Format.{bytes}
 
 -- The buffer b with xs in place of what stood there from a place on; all other bytes stay.
@@ -22,10 +22,8 @@ unfoldable pub written : List ℕ → ℕ → Table → List ℕ
 written b at t = pick (legal t) (pick (leb (at + length (bytes t)) (length b)) (overlaid b at (bytes t)) b) b
 
 -- Document 01's number and values of an answer.
-abbrev pub told : Writing → Told
-told (Written next) = answered (next ∷ [])
-told NotLegal = refused 11
-told NoRoom = refused 16
+abbrev pub told : Result ℕ Refusal → Told
+told r = told_number r
 
 -- The plain reading of a buffer b that then holds c: xs stand from a place up to next, and every byte outside them stays.
 pub record Laid (b : List ℕ) (at next : ℕ) (xs c : List ℕ) : Type 0 where

@@ -4,6 +4,7 @@
 ghost use Rattle.std.specs.Prelude.{◌≡◌};
 ghost use Rattle.writer.specs.Writer.{told, writing, written};
 
+use basis::Refusal;
 use table::{Table, legal};
 
 mod put;
@@ -13,29 +14,21 @@ use put::put_table;
 pub use put::write_numbers;
 use size::table_size;
 
-// Written up to before a place, or the refusal.
-#[derive(Clone, Copy)]
-pub enum Writing {
-    Written(usize),
-    NotLegal,
-    NoRoom,
-}
-
-// A legal table, written from the place at on; the answer is the place after it.
-pub fn write(t: Table, buf: &mut [u8], at: usize) -> Writing
+// A legal table, written from the place at on; the answer is the place after it. Refuses with 11, 16.
+pub fn write(t: Table, buf: &mut [u8], at: usize) -> Result<usize, Refusal>
     ensures { (told result ≡ writing buf.old at t) × (buf.new ≡ written buf.old at t) }
 {
     if !legal(t) {
-        return Writing::NotLegal;
+        return Err(Refusal::NotLegal);
     }
     let size = table_size(t);
     let len = buf.len();
     if len < at {
-        return Writing::NoRoom;
+        return Err(Refusal::NoRoom);
     }
     if len - at < size {
-        return Writing::NoRoom;
+        return Err(Refusal::NoRoom);
     }
     let next = put_table(buf, at, t);
-    Writing::Written(next)
+    Ok(next)
 }

@@ -2,7 +2,7 @@ use mathlib.Core.Path.{◌≡◌, sym, ◌∙◌, subst}
 use mathlib.Core.Bool.{true}
 use lib.ListN.{length}
 use Rattle.basis.specs.Tests.{pick}
-use Rattle.numeral.specs.declared.Number.{Number}
+use Rattle.numeral.specs.Number.{Number}
 use Rattle.sheet.specs.Field.{Inside}
 use Rattle.sheet.specs.Scan.{goes_on, turned}
 use Rattle.sheet.proofs.CutLaws.{going}
