@@ -3,7 +3,7 @@
 
 ghost use Rattle.std.specs.Prelude.{◌≡◌, ◌≤◌, length, drop};
 ghost use Rattle.cleaning.specs.Cleanings.{nobody, latest, last_run, cleaned, known, listing, outcome};
-ghost use Rattle.cleaning.specs.Scan.{none, first, Ways, passes, barred, scanned, following, pasted, tallied, reported, counted};
+ghost use Rattle.cleaning.specs.Scan.{none, first, Ways, passes, barred, scanned, following, pasted, tallied, reported};
 
 use basis::Refusal;
 use flow::row;
@@ -151,7 +151,7 @@ fn is_known(count: u8, b: u8) -> bool
 
 // One pass: how many cleanings a trace has, if each of its bytes passes.
 fn tally(n: u8, w: &[u16; 64], trace: &[u8]) -> Result<usize, Refusal>
-    ensures { counted result ≡ tallied n w.now trace.now }
+    ensures { result ≡ tallied n w.now trace.now }
 {
     let mut m: usize = 0;
     let mut i: usize = 0;
@@ -172,7 +172,7 @@ fn tally(n: u8, w: &[u16; 64], trace: &[u8]) -> Result<usize, Refusal>
 
 // The answer for a list of so many places.
 fn judge(t: Table, trace: &[u8], places: usize) -> Result<usize, Refusal>
-    ensures { counted result ≡ reported t trace.now places }
+    ensures { result ≡ reported t trace.now places }
 {
     if !legal(t) {
         return Err(Refusal::NotLegal);
