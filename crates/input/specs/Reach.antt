@@ -1,6 +1,5 @@
 -- What the reach of a buffer's reading says.
-use Rattle.std.specs.Prelude.{Bool, true, false, Option, None, Some}
-use Rattle.std_io.specs.declared.io.error.Error.{Error}
+use Rattle.std.specs.Prelude.{Bool, true, false}
 use Rattle.input.specs.declared.Reach.{Reach}
 use Rattle.input.specs.declared.Reach.TheVariants.{Whole, Part, Interrupted, Failed}
 
@@ -18,9 +17,9 @@ is_open Part = true
 is_open (Interrupted e) = true
 is_open (Failed e) = false
 
--- Why the last read took nothing, where it did not.
-abbrev pub error_of : Reach → Option Error
-error_of Whole = None
-error_of Part = None
-error_of (Interrupted e) = Some e
-error_of (Failed e) = Some e
+-- The last read took nothing, and an error tells why.
+abbrev pub has_error : Reach → Bool
+has_error Whole = false
+has_error Part = false
+has_error (Interrupted e) = true
+has_error (Failed e) = true

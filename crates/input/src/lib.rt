@@ -1,8 +1,8 @@
 // Reading a file or standard input into a buffer.
 #![tactic(auto)]
 
-ghost use Rattle.std.specs.Prelude.{◌≤◌, ◌<◌, ◌≡◌, length, take};
-ghost use Rattle.input.specs.Reach.{is_whole, is_open, error_of};
+ghost use Rattle.std.specs.Prelude.{◌≤◌, ◌<◌, ◌≡◌, length, take, is_some};
+ghost use Rattle.input.specs.Reach.{is_whole, is_open, has_error};
 
 use std::fs;
 use std::io::{Error, ErrorKind, Read};
@@ -35,7 +35,7 @@ impl Reach {
 
     // Why the last read took nothing, where it did not.
     pub fn error(self) -> Option<Error>
-        ensures { result ≡ error_of self }
+        ensures { is_some result ≡ has_error self }
     {
         match self {
             Reach::Interrupted(error) | Reach::Failed(error) => Some(error),
