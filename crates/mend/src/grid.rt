@@ -22,6 +22,7 @@ fn by_way(grid: &[bool; 256], k: usize, a: usize, b: usize) -> bool
 }
 
 // From a to each target by way of k.
+#[tactic(auto, unfolding(crate::specs::Grid::widened, crate::specs::Grid::joined))]
 fn widen(grid: &mut [bool; 256], domains: usize, k: usize, a: usize)
     requires { (domains ≤ 16) × (k < 16) × (a < 16) }
     ensures { grid.new ≡ widened k a domains grid.old }
@@ -32,6 +33,7 @@ fn widen(grid: &mut [bool; 256], domains: usize, k: usize, a: usize)
 }
 
 // From each source.
+#[tactic(auto, unfolding(crate::specs::Grid::passed))]
 fn pass(grid: &mut [bool; 256], domains: usize, k: usize)
     requires { (domains ≤ 16) × (k < 16) }
     ensures { grid.new ≡ passed domains k domains grid.old }
@@ -42,6 +44,7 @@ fn pass(grid: &mut [bool; 256], domains: usize, k: usize)
 }
 
 // By way of each domain.
+#[tactic(auto, unfolding(crate::specs::Grid::closed))]
 fn close(grid: &mut [bool; 256], domains: usize)
     requires { domains ≤ 16 }
     ensures { grid.new ≡ closed domains domains grid.old }
@@ -68,6 +71,7 @@ fn rows_of(grid: &[bool; 256]) -> [u16; 16]
     array::from_fn(|a| row_of(grid, a))
 }
 
+#[tactic(auto, unfolding(crate::specs::Rows::mended))]
 pub fn mended(domains: usize, rows: [u16; 16]) -> [u16; 16]
     requires { domains ≤ 16 }
     ensures { result ≡ the-mended domains rows }

@@ -5,4 +5,4 @@ use Prim.Native.Nat.{◌≤◌}
 use Rattle.mend.proofs.grid.close.Given as goal
 
 abbrev pub invariant-loop-k : goal.invariant-loop-k
-invariant-loop-k l = (l.k ≤ l.domains) × (l.grid ≡ closed l.domains l.k l.initial.grid)
+invariant-loop-k l = l.grid ≡ closed l.domains l.k l.initial.grid

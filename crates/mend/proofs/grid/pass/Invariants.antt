@@ -5,4 +5,4 @@ use Prim.Native.Nat.{◌≤◌}
 use Rattle.mend.proofs.grid.pass.Given as goal
 
 abbrev pub invariant-loop-a : goal.invariant-loop-a
-invariant-loop-a l = (l.a ≤ l.domains) × (l.grid ≡ passed l.domains l.k l.a l.initial.grid)
+invariant-loop-a l = l.grid ≡ passed l.domains l.k l.a l.initial.grid

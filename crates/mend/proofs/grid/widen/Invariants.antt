@@ -5,4 +5,4 @@ use Prim.Native.Nat.{◌≤◌}
 use Rattle.mend.proofs.grid.widen.Given as goal
 
 abbrev pub invariant-loop-b : goal.invariant-loop-b
-invariant-loop-b l = (l.b ≤ l.domains) × (l.grid ≡ widened l.k l.a l.b l.initial.grid)
+invariant-loop-b l = l.grid ≡ widened l.k l.a l.b l.initial.grid
