@@ -1,6 +1,6 @@
 // A grid of 256 cells, filled from the rows and closed under transitivity: cell 16 * a + b says whether a may flow to b.
 ghost use Rattle.std.specs.Prelude.{◌≡◌, ◌≤◌, ◌<◌};
-ghost use Rattle.mend.specs.Grid.{filled, by_way, widened, passed, closed};
+ghost use Rattle.mend.specs.Grid.{filled, by_way, closed};
 ghost use Rattle.mend.specs.Rows.{row_from, rows_of, mended as the-mended};
 
 use flow::may_flow;
@@ -21,36 +21,18 @@ fn by_way(grid: &[bool; 256], k: usize, a: usize, b: usize) -> bool
     grid[16 * a + b] || grid[16 * a + k] && grid[16 * k + b]
 }
 
-// From a to each target by way of k.
-#[tactic(auto, unfolding(crate::specs::Grid::widened, crate::specs::Grid::joined))]
-fn widen(grid: &mut [bool; 256], domains: usize, k: usize, a: usize)
-    requires { (domains ≤ 16) × (k < 16) × (a < 16) }
-    ensures { grid.new ≡ widened k a domains grid.old }
-{
-    for b in 0..domains {
-        grid[16 * a + b] = by_way(grid, k, a, b);
-    }
-}
-
-// From each source.
-#[tactic(auto, unfolding(crate::specs::Grid::passed))]
-fn pass(grid: &mut [bool; 256], domains: usize, k: usize)
-    requires { (domains ≤ 16) × (k < 16) }
-    ensures { grid.new ≡ passed domains k domains grid.old }
-{
-    for a in 0..domains {
-        widen(grid, domains, k, a);
-    }
-}
-
-// By way of each domain.
-#[tactic(auto, unfolding(crate::specs::Grid::closed))]
+// By way of each domain k, from each source a, to each target b.
+#[tactic(auto, unfolding(crate::specs::Grid::joined, crate::specs::Grid::widened, crate::specs::Grid::passed, crate::specs::Grid::closed))]
 fn close(grid: &mut [bool; 256], domains: usize)
     requires { domains ≤ 16 }
     ensures { grid.new ≡ closed domains domains grid.old }
 {
     for k in 0..domains {
-        pass(grid, domains, k);
+        for a in 0..domains {
+            for b in 0..domains {
+                grid[16 * a + b] = by_way(grid, k, a, b);
+            }
+        }
     }
 }
 

@@ -1,5 +1,5 @@
 -- n bits fit.
-use Rattle.std.proofs.Common.{◌≡◌, ◌-◌, ◌+◌, ◌*◌, ℕ, suc, false, get_or, refl, ap, sym, ◌∙◌, arith}
+use Rattle.std.proofs.Common.{◌≡◌, ◌-◌, ◌+◌, ◌*◌, false, get_or, refl, arith}
 use Rattle.mend.specs.Rows.{row_from}
 use Rattle.mend.proofs.BitLaws.{row_from-fits, digit_small, digit-byte, row_from-next}
 use Rattle.mend.proofs.grid.row_of.Goals as goal

@@ -1,8 +1,8 @@
 -- The rows so far are counted; each adds 16 at most.
-use Rattle.std.proofs.Common.{◌≡◌, ◌≤◌, ◌<◌, ◌+◌, ◌-◌, ◌∷◌, [], ◌++◌, ℕ, length, get_or, length-append, refl, sym, arith, add-one}
+use Rattle.std.proofs.Common.{◌≡◌, ◌<◌, ℕ, length, get_or, refl, arith, add-one}
 use Rattle.std.proofs.lemmas.Slice.Zip.{zip_turn, zip_end}
 use Rattle.std.proofs.lemmas.List.{length_push}
-use Rattle.mend.specs.Rows.{ones_of, count}
+use Rattle.mend.specs.Rows.{count}
 use Rattle.mend.proofs.pairs.count_added.Goals as goal
 use Rattle.mend.proofs.pairs.count_added.Goals.{In-Some}
 

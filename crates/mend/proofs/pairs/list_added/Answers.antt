@@ -1,5 +1,5 @@
 -- Of the first c pairs those added stand in the first n places, and the further places stay.
-use Rattle.std.proofs.Common.{◌≡◌, ◌≤◌, ◌<◌, ◌+◌, ◌++◌, length, drop, sym, ◌∙◌, refl, arith}
+use Rattle.std.proofs.Common.{◌≡◌, ◌<◌, ◌+◌, ◌++◌, length, drop, sym, ◌∙◌, refl, arith}
 use Rattle.mend.specs.Rows.{added}
 use Rattle.mend.proofs.PairLaws.{room, put_next, pass_next}
 use Rattle.mend.proofs.pairs.list_added.Goals as goal
@@ -13,7 +13,7 @@ has_room c = room c.args.rows c.args.mended c.loop-c.c c.loop-c.n c.args.pairs.n
 next : (c : Joined-is_added) → (c.if-is_added.n ≡ length (added c.args.rows c.args.mended (c.loop-c.c + 1)))
     × (c.if-is_added.pairs ≡ added c.args.rows c.args.mended (c.loop-c.c + 1) ++ drop c.if-is_added.n c.args.pairs.now)
 next c = elim c.if-is_added.branch [
-  then-is_added w ↦ rw (w.n-is, w.pairs-is) (put_next c.args.rows c.args.mended c.loop-c.c c.loop-c.n c.args.pairs.now c.loop-c.pairs c.loop-c.invariant.0 c.loop-c.invariant.1 (room c.args.rows c.args.mended c.loop-c.c c.loop-c.n c.args.pairs.now (omega arith) c.requires c.loop-c.invariant.0 (sym c.is_added.ensures ∙ w.if-is_added.true)) (sym c.is_added.ensures ∙ w.if-is_added.true))
+  | then-is_added w ↦ rw (w.n-is, w.pairs-is) (put_next c.args.rows c.args.mended c.loop-c.c c.loop-c.n c.args.pairs.now c.loop-c.pairs c.loop-c.invariant.0 c.loop-c.invariant.1 (room c.args.rows c.args.mended c.loop-c.c c.loop-c.n c.args.pairs.now (omega arith) c.requires c.loop-c.invariant.0 (sym c.is_added.ensures ∙ w.if-is_added.true)) (sym c.is_added.ensures ∙ w.if-is_added.true))
   | else-is_added w ↦ rw (w.n-is, w.pairs-is) (pass_next c.args.rows c.args.mended c.loop-c.c c.loop-c.n c.args.pairs.now c.loop-c.pairs c.loop-c.invariant.0 c.loop-c.invariant.1 (sym c.is_added.ensures ∙ w.if-is_added.false))
 ]
 

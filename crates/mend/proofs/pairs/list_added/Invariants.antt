@@ -1,5 +1,5 @@
 -- Of the first c pairs those added stand in the first n places, and the further places stay.
-use Rattle.std.proofs.Common.{◌≡◌, ◌≤◌, ◌++◌, length, drop}
+use Rattle.std.proofs.Common.{◌≡◌, ◌++◌, length, drop}
 use Rattle.mend.specs.Rows.{added}
 use Rattle.mend.proofs.pairs.list_added.Given as goal
 
