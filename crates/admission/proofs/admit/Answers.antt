@@ -1,3 +1,4 @@
+use Rattle.admission.proofs.AskedLaws.{told_alike}
 use Rattle.admission.specs.Admit.{admitting, bounds_given, counts_given}
 use Rattle.table.specs.Legal.{legal, Sized}
 use Rattle.table.proofs.LegalLaws.{legal_sound}
@@ -28,4 +29,4 @@ pub returns : goal.returns
 unfolding admitting bounds_given counts_given pick
 returns c =
     let e = lawful (goal.at.returns c).Else-not-legal in
-    (rw e c.admit_legal.ensures.0, rw e c.admit_legal.ensures.1, rw e c.admit_legal.ensures.2)
+    (rw e (told_alike _ _ c.admit_legal.ensures.0), rw e c.admit_legal.ensures.1, rw e c.admit_legal.ensures.2)
