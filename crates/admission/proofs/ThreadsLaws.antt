@@ -4,7 +4,6 @@ use lib.Seq.{get_or-take}
 use Rattle.table.specs.Threads.{thread, none}
 use Rattle.table.specs.Legal.{Legal}
 use Rattle.table.specs.declared.Table.{Table}
-use Rattle.table.specs.declared.Thread.{Thread}
 
 module _ (t : Table) (g : Legal t) where
   pub threads_long : length (take t.count t.threads) ≡ t.count

@@ -44,14 +44,23 @@ pub struct Admission {
     pub tried: [u16; 32],
 }
 
+// Whether a table is legal; refuses with 11.
+fn lawful(t: Table) -> Result<(), Refusal>
+    ensures told { told_done result ≡ pick (is_legal t) (answered []) (refused 11) }
+    ensures ok { OnOk result (Legal t) }
+{
+    if !legal(t) {
+        return Err(Refusal::NotLegal);
+    }
+    Ok(())
+}
+
 // Whether a table is legal and has thread i; refuses with 11, 15.
 fn has_thread(t: Table, i: u8) -> Result<(), Refusal>
     ensures told { told_done result ≡ pick (is_legal t) (pick (ltb i t.count) (answered []) (refused 15)) (refused 11) }
     ensures ok { OnOk result (Legal t × (i < t.count)) }
 {
-    if !legal(t) {
-        return Err(Refusal::NotLegal);
-    }
+    lawful(t)?;
     if t.count <= i {
         return Err(Refusal::Missing);
     }
@@ -62,9 +71,7 @@ fn has_thread(t: Table, i: u8) -> Result<(), Refusal>
 pub fn admit(t: Table) -> Result<Admission, Refusal>
     ensures { (told-admitting result ≡ admitting t) × (bounds_in result ≡ bounds_given t) × (counts_in result ≡ counts_given t) }
 {
-    if !legal(t) {
-        return Err(Refusal::NotLegal);
-    }
+    lawful(t)?;
     Ok(admit_legal(t))
 }
 
@@ -80,9 +87,7 @@ pub fn bound_of(t: Table, i: u8) -> Result<Search, Refusal>
 pub fn worst_count(t: Table) -> Result<u32, Refusal>
     ensures { told_number result ≡ worst_given t }
 {
-    if !legal(t) {
-        return Err(Refusal::NotLegal);
-    }
+    lawful(t)?;
     Ok(worst_of(t))
 }
 

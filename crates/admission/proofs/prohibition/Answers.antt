@@ -1,4 +1,3 @@
-use Rattle.std.proofs.Common.{ℕ, ap, arith}
 use Rattle.std.proofs.lemmas.Result.{err_from_is_err_and}
 use mathlib.Core.Logic.{⊎_elim}
 use Rattle.basis.specs.Tests.{pick}

@@ -4,12 +4,11 @@ use Rattle.admission.proofs.SumLaws.{sum-next}
 use Rattle.admission.proofs.ThreadsLaws.{threads_long, threads_below, threads_at}
 use Rattle.admission.proofs.ProhibitionLaws.{prohibition_partial, brought}
 use Rattle.table.specs.Threads.{thread, none}
-use Rattle.table.specs.Mark.{Mark, marked, mark, marks_of, is_set}
+use Rattle.table.specs.Mark.{Mark, marked, mark}
 use Rattle.basis.specs.Search.{nothing}
-use Rattle.table.proofs.MarkLaws.{set_exactly}
 use Rattle.std.proofs.lemmas.Slice.Zip.{zip_turn, zip_end}
 use Rattle.std.proofs.lemmas.List.{length_push}
-use Rattle.std.proofs.Common.{ℕ, Bool, List, ◌≡◌, ◌<◌, ◌+◌, ◌∙◌, ap, length, take, get_or, is_some, arith, add-one, refl}
+use Rattle.std.proofs.Common.{ℕ, ◌≡◌, ◌<◌, ◌+◌, ◌∙◌, length, take, get_or, arith, refl}
 use Rattle.admission.proofs.prohibited.prohibition_time.Goals as goal
 use Rattle.admission.proofs.prohibited.prohibition_time.Goals.{In-Some, After-stretch-sum}
 
