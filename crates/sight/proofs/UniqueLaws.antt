@@ -1,6 +1,5 @@
 -- No second answer fits `shown` or `shown_state`: from what is told of an answer, the answer can be read back.
-use Rattle.std.proofs.Common.{ℕ, ◌≡◌, List, [], ◌∷◌, Option, Some, None, Result, option_to_list, refl, sym, ◌∙◌, replicate}
-use Rattle.basis.specs.Refusals.{refused_by}
+use Rattle.std.proofs.Common.{ℕ, ◌≡◌, List, Option, Some, None, Result, option_to_list, refl, sym, ◌∙◌, replicate}
 use Rattle.basis.specs.declared.refusal.Refusal.{Refusal}
 use Rattle.basis.proofs.RefusalLaws.{told-apart, done-apart}
 use Rattle.table.specs.declared.Table.{Table}
