@@ -1,6 +1,6 @@
 -- What follows a step, by what it gave: one law for each way through the refusals.
-use Prim.Native.Nat.{ℕ, ◌≤◌, ◌<◌}
-use mathlib.Core.Path.{◌≡◌, sym, ◌∙◌, ap}
+use Prim.Native.Nat.{◌≤◌, ◌<◌}
+use mathlib.Core.Path.{◌≡◌}
 use mathlib.Core.Bool.{true, false}
 use native.Mathlib.Omega.{arith}
 use borrow.Author.Tests.{lt-ltb, le-ltb, ne_eqb}
@@ -25,6 +25,9 @@ use Rattle.actuator.proofs.LevelLaws.{drawn_in, ranged-command}
 pub commanded_in : (a : Actuator) → ranged a ≡ true → (n : Answer) (x : ℤ) → in_range (commanded a n x) ≡ true
 unfolding commanded
 commanded_in a r n x = both_ways (λ z. in_range z ≡ true) (ran a.thread n) (drawn x) a.command (drawn_in x) (ranged-command a r)
+
+-- What the move after a step stands on: that, what an answer reads back as, and that no refusal has the number 0.
+pub ruleset moving = (commanded_in, answer_back, number-positive)
 
 module _ (t : Table) (x : ℤ) (s : State) (a : Actuator) where
   pub follows-refused : (why : Refusal) (next : State) → follows t x s a (record { told = refused_by why; state = next }) ≡ refused_drive (refused_by why) s a
