@@ -24,7 +24,10 @@ fn own_fault(cut: Cutting) -> Option<Fault>
     ensures { MatchOption result ((cut_of cut).refusal ≡ 0) (λ f. (number f.why ≡ (cut_of cut).refusal) × (f.place ≡ (cut_of cut).place)) }
 {
     match cut.stop? {
-        Stop::NoNumber(why) => Some(Fault { why, place: cut.next }),
+        Stop::NoNumber(why) => Some(Fault {
+            why,
+            place: cut.next,
+        }),
         Stop::WrongEnd(fault) => Some(fault),
     }
 }
@@ -51,9 +54,12 @@ fn wrong_end(cut: Cutting, k: usize) -> Option<Fault>
     requires { k < 9223372036854775808 }
     ensures { MatchOption result (ends_wrong (cut_of cut) k ≡ false) (λ f. (ends_wrong (cut_of cut) k ≡ true) × (number f.why ≡ (cut_of cut).refusal) × (f.place ≡ (cut_of cut).place)) }
 {
-    match cut.stop {
-        Some(Stop::WrongEnd(fault)) if cut.count == k + 1 => Some(fault),
-        _ => None,
+    if cut.count != k + 1 {
+        return None;
+    }
+    match cut.stop? {
+        Stop::NoNumber(_) => None,
+        Stop::WrongEnd(fault) => Some(fault),
     }
 }
 
