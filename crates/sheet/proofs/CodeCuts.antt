@@ -1,15 +1,15 @@
 -- What a cutting of the code tells, turn by turn, and that what stops it has no values of its own.
-use Prim.Native.Nat.{ℕ, zero, suc, ◌+◌, ◌<◌}
+use Prim.Native.Nat.{ℕ, zero, suc, ◌+◌}
 use mathlib.Core.Path.{◌≡◌, refl, ap, sym, ◌∙◌, subst}
 use mathlib.Core.Bool.{Bool, true, false}
-use mathlib.Core.List.{List, []}
+use mathlib.Core.List.{List}
 use native.Mathlib.Omega.{arith}
 use lib.ListN.{get_or, set, take}
 use lib.Dec.{eqb}
-use borrow.Author.Tests.{eqb-true, eqb-false, eq-eqb, ne_eqb}
-use Rattle.std.specs.Prelude.{Option, None, Some, Result, Ok, Err}
+use borrow.Author.Tests.{ne_eqb}
+use Rattle.std.specs.Prelude.{Option, None, Some}
 use Rattle.basis.specs.Tests.{pick}
-use Rattle.basis.specs.Refusals.{number, values}
+use Rattle.basis.specs.Refusals.{number}
 use Rattle.basis.specs.declared.refusal.Refusal.{Refusal}
 use Rattle.basis.proofs.RefusalLaws.{number-positive}
 use Rattle.basis.proofs.TestLaws.{by_test, either}
@@ -21,7 +21,7 @@ use Rattle.sheet.specs.Field.{field_at}
 use Rattle.sheet.specs.Text.{line_over}
 use Rattle.sheet.specs.Sheet.{end_fault, behind}
 use Rattle.sheet.specs.SheetJudging.{NoField, empty, text_ends, padded, strange, too_large}
-use Rattle.sheet.specs.Scan.{Cutting, stop_why, stop_place, stop_ended, cut_of, told_cut, number_cut, none_cut, field_cut, goes_on, turned, scanned}
+use Rattle.sheet.specs.Scan.{Cutting, stop_why, stop_place, stop_ended, cut_of, told_cut, number_cut, field_cut, goes_on, turned, scanned}
 use Rattle.sheet.proofs.FieldRules.{no_field_exactly}
 
 positive-not : (why : Refusal) → eqb (number why) 0 ≡ false

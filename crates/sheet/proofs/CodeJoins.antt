@@ -7,10 +7,9 @@ use native.Mathlib.Omega.{arith}
 use lib.ListN.{length, take}
 use lib.Dec.{eqb, ltb}
 use borrow.Author.Tests.{eqb-true, eq-eqb, ne_eqb, lt-ltb, le-ltb}
-use Rattle.std.specs.Prelude.{Option, None, Some, Result, Ok, Err}
+use Rattle.std.specs.Prelude.{None, Some}
 use Rattle.std.specs.List.{count_by}
 use Rattle.basis.specs.Tests.{pick}
-use Rattle.basis.specs.Told.{Told}
 use Rattle.basis.specs.Refusals.{number, values}
 use Rattle.basis.specs.declared.refusal.Refusal.{Refusal}
 use Rattle.basis.specs.declared.refusal.Refusal.TheVariants.{EndsEarly, NotShortest, TooLarge, Version, Count, Row, Intransitive as Gapped, Field, PriorityTaken, Extra, NotLegal, NotFitting, StepBytes, LastClock, Missing, NoRoom, EventMask, Frame, Actuator, TraceByte}
@@ -18,7 +17,7 @@ use Rattle.basis.proofs.RefusalLaws.{number-positive, refused-apart}
 use Rattle.basis.proofs.TestLaws.{by_test, and-false}
 use Rattle.table.specs.declared.Table.{Table}
 use Rattle.reader.specs.declared.Fault.{Fault}
-use Rattle.reader.specs.Reader.{Read, accepted, no_table, reading, read_of}
+use Rattle.reader.specs.Reader.{Read, no_table, reading}
 use Rattle.sheet.specs.declared.Stop.TheVariants.{NoNumber, WrongEnd}
 use Rattle.sheet.specs.declared.Cutting.{Cutting as TheCutting}
 use Rattle.sheet.specs.Sheet.{most_numbers, sheet_reading}

@@ -1,5 +1,5 @@
 -- Which fault goes before the other.
-use mathlib.Core.Path.{◌≡◌, refl, ap, sym, ◌∙◌}
+use mathlib.Core.Path.{ap, ◌∙◌}
 use native.Mathlib.Omega.{arith}
 use Rattle.basis.specs.Refusals.{number}
 use Rattle.sheet.specs.Scan.{cut_of}
