@@ -22,10 +22,10 @@ use Rattle.table.specs.Ranges.{within, versions, domain_counts, thread_counts, f
 use Rattle.table.specs.declared.Range.{Range}
 use Rattle.table.specs.declared.Thread.{Thread}
 use Rattle.table.proofs.RangeLaws.{within_high, field_range_by, narrow_by}
-use Rattle.reader.specs.declared.Cursor.{Cursor}
-use Rattle.reader.specs.declared.RowsRead.{RowsRead}
-use Rattle.reader.specs.declared.FieldsRead.{FieldsRead}
-use Rattle.reader.specs.declared.ThreadsRead.{ThreadsRead}
+use Rattle.reader.specs.Reader.{Cursor}
+use Rattle.reader.specs.Reader.{RowsRead}
+use Rattle.reader.specs.Reader.{FieldsRead}
+use Rattle.reader.specs.Reader.{ThreadsRead}
 use Rattle.reader.specs.declared.Verdict.{Verdict}
 use Rattle.reader.specs.declared.Verdict.TheVariants.{Accepted, Refused, Intransitive}
 use Rattle.reader.specs.declared.Reading.{Reading}
