@@ -1,7 +1,8 @@
 // A field: where it ends, and the number that it is.
-ghost use Rattle.std.specs.Prelude.{◌≡◌, true, ◌+◌, length, drop};
+ghost use Rattle.std.specs.Prelude.{◌≡◌, true, ◌+◌, ◌<◌, length, drop, MatchResult};
+ghost use Rattle.basis.specs.Refusals.{number};
 ghost use Rattle.numeral.specs.Number.{given};
-ghost use Rattle.sheet.specs.Field.{field_ends as ends_there, field, all_digits, zero_first, value_from, value_given, judged_value, judged_digits, field_at, Inside};
+ghost use Rattle.sheet.specs.Field.{field_ends as ends_there, field, all_digits, zero_first, value_from, judged_digits, field_at, Inside};
 
 use basis::Refusal;
 use numeral::Numeral;
@@ -42,7 +43,7 @@ fn is_padded(f: &[u8]) -> bool
 // The value of digits, however many.
 fn value_of(f: &[u8]) -> Result<u16, Refusal>
     requires { all_digits f.now ≡ true }
-    ensures { value_given result ≡ judged_value (value_from 0 f.now) }
+    ensures { MatchResult result (λ v. v ≡ value_from 0 f.now) (λ why. (number why ≡ 3) × (65535 < value_from 0 f.now)) }
 {
     let mut v = 0u32;
     for b in f {
