@@ -172,22 +172,22 @@ pub record GivesUp (f : Fault) (c : Cursor) : Type 0 where
 
 -- What the code has in hand after a number is where the reader stands.
 abbrev pub Stands : Result CursorInHand Fault → Cursor → Type 0
-Stands (Ok c) k = k ≡ standing c
+Stands (Ok c) k = standing c ≡ k
 Stands (Err f) k = GivesUp f k
 
 -- What it has in hand after the rows is what was read of them.
 abbrev pub HasRows : Result RowsInHand Fault → RowsRead → Type 0
-HasRows (Ok r) x = x ≡ record { cursor = standing r.cursor; rows = r.rows }
+HasRows (Ok r) x = record { cursor = standing r.cursor; rows = r.rows } ≡ x
 HasRows (Err f) x = GivesUp f x.cursor
 
 -- So it is after the fields of a thread.
 abbrev pub HasFields : Result FieldsInHand Fault → FieldsRead → Type 0
-HasFields (Ok r) x = x ≡ record { cursor = standing r.cursor; fields = r.fields }
+HasFields (Ok r) x = record { cursor = standing r.cursor; fields = r.fields } ≡ x
 HasFields (Err f) x = GivesUp f x.cursor
 
 -- So it is after the threads.
 abbrev pub HasThreads : Result ThreadsInHand Fault → ThreadsRead → Type 0
-HasThreads (Ok r) x = x ≡ record { cursor = standing r.cursor; threads = r.threads }
+HasThreads (Ok r) x = record { cursor = standing r.cursor; threads = r.threads } ≡ x
 HasThreads (Err f) x = GivesUp f x.cursor
 
 -- Document 01's number and values of an answer: of a refusal its place, then its own.
