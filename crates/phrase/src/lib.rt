@@ -82,9 +82,8 @@ pub fn put_filled(buf: &mut [u8], at: usize, template: &[u8], numbers: &[u64]) -
 pub fn fill(buf: &mut [u8], at: usize, template: &[u8], numbers: &[u64]) -> Result<usize, Refusal>
     ensures { (told result ≡ printing buf.old at (filled template.now numbers.now)) × (buf.new ≡ printed buf.old at (filled template.now numbers.now)) }
 {
-    let room = buf.len().checked_sub(at).ok_or(Refusal::NoRoom)?;
-    if !is_roomy(room, template, numbers) {
-        return Err(Refusal::NoRoom);
+    match buf.len().checked_sub(at) {
+        Some(room) if is_roomy(room, template, numbers) => Ok(put_filled(buf, at, template, numbers)),
+        _ => Err(Refusal::NoRoom),
     }
-    Ok(put_filled(buf, at, template, numbers))
 }

@@ -64,11 +64,10 @@ pub fn put_line(buf: &mut [u8], at: usize, clock: u32, b: u8) -> usize
 pub fn lay(buf: &mut [u8], at: usize, text: &[u8]) -> Result<usize, Refusal>
     ensures { (told result ≡ printing buf.old at text.now) × (buf.new ≡ printed buf.old at text.now) }
 {
-    let room = buf.len().checked_sub(at).ok_or(Refusal::NoRoom)?;
-    if room < text.len() {
-        return Err(Refusal::NoRoom);
+    match buf.len().checked_sub(at) {
+        Some(room) if text.len() <= room => Ok(put(buf, at, text)),
+        _ => Err(Refusal::NoRoom),
     }
-    Ok(put(buf, at, text))
 }
 
 // A line of a word and a number.
