@@ -83,7 +83,9 @@ pub fn fill(buf: &mut [u8], at: usize, template: &[u8], numbers: &[u64]) -> Resu
     ensures { (told result ≡ printing buf.old at (filled template.now numbers.now)) × (buf.new ≡ printed buf.old at (filled template.now numbers.now)) }
 {
     match buf.len().checked_sub(at) {
-        Some(room) if is_roomy(room, template, numbers) => Ok(put_filled(buf, at, template, numbers)),
+        Some(room) if is_roomy(room, template, numbers) => Ok(put_filled(
+            buf, at, template, numbers,
+        )),
         _ => Err(Refusal::NoRoom),
     }
 }

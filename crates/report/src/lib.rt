@@ -14,6 +14,7 @@ use decimal::put_number;
 use text::{lay, print_counted, put, put_line};
 
 // How many threads the table has.
+#[tactic(auto, unfolding(crate::specs::Lines::threads_line))]
 pub fn print_threads(buf: &mut [u8], at: usize, threads: u8) -> Result<usize, Refusal>
     ensures { (told result ≡ printing buf.old at (threads_line threads)) × (buf.new ≡ printed buf.old at (threads_line threads)) }
 {
@@ -33,6 +34,7 @@ pub fn print_trace(buf: &mut [u8], at: usize, clock: u32, trace: &[u8]) -> usize
 }
 
 // How many steps were done.
+#[tactic(auto, unfolding(crate::specs::Lines::end_line))]
 pub fn print_end(buf: &mut [u8], at: usize, steps: u32) -> Result<usize, Refusal>
     ensures { (told result ≡ printing buf.old at (end_line steps)) × (buf.new ≡ printed buf.old at (end_line steps)) }
 {

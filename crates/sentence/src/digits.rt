@@ -19,7 +19,11 @@ pub fn is_stray(sign: u8) -> bool {
 
 // LF without CR, or CR without LF.
 pub fn explain_stray(out: &mut [u8], sign: u8, s: Spot) -> usize {
-    let (has, lacks) = if sign == b'\n' { ("LF", "CR") } else { ("CR", "LF") };
+    let (has, lacks) = if sign == b'\n' {
+        ("LF", "CR")
+    } else {
+        ("CR", "LF")
+    };
     put(
         out,
         format_args!("behind {s} stands {has} without {lacks}: each line ends with CR LF\n"),

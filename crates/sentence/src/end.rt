@@ -15,7 +15,11 @@ fn is_last(s: Spot, next: Spot) -> bool {
 
 // The input ends before a number or inside it.
 fn explain_cut(out: &mut [u8], what: &str, c: &Cause, s: Spot) -> usize {
-    let place = if c.found == Found::Nothing { "before" } else { "inside" };
+    let place = if c.found == Found::Nothing {
+        "before"
+    } else {
+        "inside"
+    };
     put(out, format_args!("{what} {place} {s}\n"))
 }
 

@@ -47,7 +47,7 @@ fn bit_value(i: usize) -> u64 {
 pub fn explain_row(out: &mut [u8], c: &Cause, v: u16, i: usize) -> usize {
     let domains = c.numbers[1];
     let last = domains.saturating_sub(1);
-    match (domains..16).find(|&j| v.checked_shr(j as u32).unwrap_or(0) % 2 == 1) {
+    match (domains..16).find(|&j| (v >> j) % 2 == 1) {
         Some(j) => put(
             out,
             format_args!(

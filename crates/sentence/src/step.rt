@@ -1,4 +1,6 @@
 // Refusals of a step, a frame, a drive or a trace, and those that name nothing.
+ghost use Rattle.std.specs.Prelude.{◌<◌};
+
 use super::page::put;
 use basis::Refusal;
 use frame::{Frame, Window};
@@ -37,10 +39,7 @@ pub fn explain_short(out: &mut [u8], clock: u32, bytes: u64, want: u64, mask: u6
         );
     }
     if mask == 0 {
-        return put(
-            out,
-            format_args!("step {clock}: there is no mask for it\n"),
-        );
+        return put(out, format_args!("step {clock}: there is no mask for it\n"));
     }
     put(
         out,
@@ -49,14 +48,16 @@ pub fn explain_short(out: &mut [u8], clock: u32, bytes: u64, want: u64, mask: u6
 }
 
 // Whether no event may release thread i.
-fn is_deaf(t: &Table, i: u8) -> bool {
-    t.count <= i || t.threads.get(i as usize).is_none_or(|th| th.kind != 1)
+fn is_deaf(t: &Table, i: u8) -> bool
+    requires { i < 32 }
+{
+    t.count <= i || t.threads[i as usize].kind != 1
 }
 
 // 18: the first thread in the mask that no event may release.
 pub fn explain_event(out: &mut [u8], clock: u32, mask: u32, t: Table) -> usize {
     let last = t.count.saturating_sub(1);
-    match (0..32u8).find(|&i| mask.checked_shr(i as u32).unwrap_or(0) % 2 == 1 && is_deaf(&t, i)) {
+    match (0..32u8).find(|&i| (mask >> i) % 2 == 1 && is_deaf(&t, i)) {
         None => explain_other(out, Refusal::EventMask),
         Some(i) if i < t.count => put(
             out,
@@ -64,7 +65,9 @@ pub fn explain_event(out: &mut [u8], clock: u32, mask: u32, t: Table) -> usize {
         ),
         Some(i) => put(
             out,
-            format_args!("step {clock}: its mask names thread {i}, and the last thread is {last}\n"),
+            format_args!(
+                "step {clock}: its mask names thread {i}, and the last thread is {last}\n"
+            ),
         ),
     }
 }
