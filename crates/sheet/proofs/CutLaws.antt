@@ -15,10 +15,9 @@ use Rattle.basis.proofs.TestLaws.{either, and_both, and-false}
 use Rattle.numeral.specs.Number.{Number}
 use Rattle.numeral.specs.Number.{Value, Refused}
 use Rattle.codec.specs.Judging.{wanted}
-use Rattle.sheet.specs.declared.Cutting.{Cutting}
 use Rattle.sheet.specs.Field.{field_at}
 use Rattle.sheet.specs.Sheet.{most_numbers}
-use Rattle.sheet.specs.Scan.{cut_numbers, number_cut, none_cut, field_cut, goes_on, turned, scanned, cut_bytes, ends_wrong}
+use Rattle.sheet.specs.Scan.{Cutting, cut_numbers, number_cut, none_cut, field_cut, goes_on, turned, scanned, cut_bytes, ends_wrong}
 use Rattle.sheet.proofs.FieldRuns.{field_back}
 use Rattle.sheet.proofs.EncodeLaws.{Low, low_none, low_next, all_short}
 

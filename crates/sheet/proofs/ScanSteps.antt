@@ -12,8 +12,7 @@ use Rattle.basis.specs.Tests.{pick, and, or}
 use Rattle.table.specs.Threads.{fields_in}
 use Rattle.codec.specs.Judging.{wanted}
 use Rattle.sheet.specs.Text.{line_over}
-use Rattle.sheet.specs.declared.Cutting.{Cutting}
-use Rattle.sheet.specs.Scan.{turned, scanned}
+use Rattle.sheet.specs.Scan.{Cutting, turned, scanned}
 
 -- 255 is no version either, and stands for those above.
 pub fields-above : (v : ℕ) → 256 ≤ v → fields_in 255 ≡ fields_in v

@@ -1,10 +1,11 @@
 // Cutting a text into numbers: after a fault nothing more is cut.
-ghost use Rattle.std.specs.Prelude.{◌≡◌, ◌+◌, ◌*◌, ◌≤◌, ◌<◌, length, take};
+ghost use Rattle.std.specs.Prelude.{◌≡◌, ℕ, ◌+◌, ◌*◌, ◌≤◌, ◌<◌, true, false, length, take, eqb};
+ghost use Rattle.basis.specs.Tests.{pick};
 ghost use Rattle.table.specs.Threads.{fields_in as the-fields-in};
 ghost use Rattle.codec.specs.Judging.{wanted};
 ghost use Rattle.sheet.specs.Text.{line_over};
 ghost use Rattle.sheet.specs.Sheet.{end_fault, behind as the-place-behind};
-ghost use Rattle.sheet.specs.Scan.{cut_of, told_cut, why_of, number_cut, goes_on as to-go-on, turned, scanned};
+ghost use Rattle.sheet.specs.Scan.{stop_why, stop_place, stop_ended, cut_of, told_cut, number_cut, goes_on as to-go-on, turned, scanned};
 
 use super::field::read_field;
 use super::{Cutting, MOST, Stop};
@@ -17,7 +18,7 @@ use table::fields_in;
 fn width(version: u16) -> usize
     ensures { (result ≡ the-fields-in version) × (result ≤ 8) }
 {
-    fields_in(u8::try_from(version).unwrap_or(255)) as usize
+    fields_in(version.min(255) as u8) as usize
 }
 
 // How many numbers follow the first three.
@@ -59,17 +60,20 @@ fn is_line_over(numbers: [u16; MOST], n: usize) -> bool
     (m - d) % w == 0
 }
 
-// Why the end of a field at a place is refused, if it is not as due.
+// What stops the cutting at the end of a field, if that end is not as due.
 #[tactic(auto, unfolding(crate::specs::Sheet::end_fault, basis::specs::Tests::pick))]
-fn end_refusal(s: &[u8], at: usize, last: bool) -> Option<Refusal>
+fn end_stop(s: &[u8], at: usize, last: bool) -> Option<Stop>
     requires { at < length s.now }
-    ensures { why_of result ≡ end_fault s.now at last }
+    ensures why { stop_why result ≡ end_fault s.now at last }
+    ensures place { (next : ℕ) → stop_place next result ≡ pick (eqb (end_fault s.now at last) 0) 0 at }
+    ensures ended { stop_ended result ≡ pick (eqb (end_fault s.now at last) 0) false true }
 {
-    match (s[at] == b',', last) {
-        (true, true) => Some(Refusal::Extra),
-        (false, false) => Some(Refusal::EndsEarly),
-        _ => None,
-    }
+    let why = match (s[at] == b',', last) {
+        (true, true) => Refusal::Extra,
+        (false, false) => Refusal::EndsEarly,
+        _ => return None,
+    };
+    Some(Stop::WrongEnd(Fault { why, place: at }))
 }
 
 // The place behind the end of a field.
@@ -94,7 +98,7 @@ fn cut_number(s: &[u8], c: Cutting, v: u16, end: usize) -> Cutting
     let count = c.count + 1;
     let last = is_line_over(numbers, count);
     Cutting {
-        stop: end_refusal(s, end, last).map(|why| Stop::WrongEnd(Fault { why, place: end })),
+        stop: end_stop(s, end, last),
         next: behind(end, last),
         count,
         numbers,
