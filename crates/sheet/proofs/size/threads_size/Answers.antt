@@ -1,6 +1,6 @@
 -- Each turn adds the size of one line.
 use Prim.Native.Nat.{◌<◌}
-use mathlib.Core.Path.{◌≡◌, refl, ap}
+use mathlib.Core.Path.{◌≡◌, ap}
 use native.Mathlib.Omega.{arith}
 use lib.ListN.{length, length-take}
 use lib.Seq.{get_or-take}
@@ -8,7 +8,7 @@ use borrow.Author.Rules.{rules}
 use Rattle.table.specs.Threads.{none}
 use Rattle.table.specs.declared.Thread.{Thread}
 use Rattle.writer.specs.Format.{written_fields}
-use Rattle.sheet.specs.Text.{line, thread_lines}
+use Rattle.sheet.specs.Text.{line}
 use Rattle.sheet.proofs.LineLaws.{thread_lines-length}
 use Rattle.sheet.proofs.size.threads_size.Goals as goal
 
