@@ -16,7 +16,6 @@ pub mod SheetAccepted
 pub mod SheetWriterLaws
 pub mod SheetRoundTrip
 pub mod LongestText
-pub mod ScanSteps
 pub mod CutLaws
 pub mod CountSteps
 pub mod CodeCuts

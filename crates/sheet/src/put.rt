@@ -60,9 +60,8 @@ fn put_threads(buf: &mut [u8], at: usize, version: u8, threads: [Thread; 32], n:
     ensures { Put buf.old at buf.new result (thread_lines version threads n) }
 {
     let mut k = at;
-    for i in 0..n {
-        let th = threads[i as usize];
-        k = put_thread(buf, k, version, th);
+    for th in &threads[..n as usize] {
+        k = put_thread(buf, k, version, *th);
     }
     k
 }

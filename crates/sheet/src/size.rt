@@ -59,9 +59,8 @@ fn threads_size(version: u8, threads: [Thread; 32], n: u8) -> usize
     ensures { (result ≡ length (thread_lines version threads n)) × (result ≤ 32 * 56) }
 {
     let mut k = 0;
-    for i in 0..n {
-        let th = threads[i as usize];
-        k += thread_size(version, th);
+    for th in &threads[..n as usize] {
+        k += thread_size(version, *th);
     }
     k
 }
