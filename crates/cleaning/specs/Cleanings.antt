@@ -7,8 +7,8 @@ use Rattle.table.specs.Legal.{legal}
 use Rattle.table.specs.Threads.{thread}
 use Rattle.table.specs.declared.Table.{Table}
 use Rattle.cleaning.specs.declared.Cleaning.{Cleaning}
-use Rattle.cleaning.specs.declared.Report.{Report}
-use Rattle.cleaning.specs.declared.Report.TheVariants.{Cleaned, NotLegal, NoThread, NoRoom}
+use Rattle.basis.specs.Refusals.{told_number}
+use Rattle.basis.specs.declared.refusal.Refusal.{Refusal}
 
 -- Where no thread has run yet.
 abbrev pub nobody : ℕ

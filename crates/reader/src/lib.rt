@@ -6,7 +6,7 @@ ghost use Rattle.reader.specs.Reader.{reading, read_of};
 
 use basis::Refusal;
 use flow::{Gap, first_gap};
-use table::{FIELDS, Range, Table, Thread};
+use table::{Range, Table};
 
 mod parts;
 mod steps;
@@ -29,24 +29,6 @@ pub struct Fault {
     pub place: usize,
 }
 
-#[derive(Clone, Copy, Debug, PartialEq, Eq)]
-pub struct RowsRead {
-    pub cursor: Cursor,
-    pub rows: [u16; 16],
-}
-
-#[derive(Clone, Copy, Debug, PartialEq, Eq)]
-pub struct FieldsRead {
-    pub cursor: Cursor,
-    pub fields: [u16; FIELDS],
-}
-
-#[derive(Clone, Copy, Debug, PartialEq, Eq)]
-pub struct ThreadsRead {
-    pub cursor: Cursor,
-    pub threads: [Thread; 32],
-}
-
 // A table from all of s, or why it is refused, and where.
 pub fn read(s: &[u8]) -> Result<Table, Fault>
     ensures { read_of result ≡ reading s.now }
@@ -62,7 +44,7 @@ pub fn read(s: &[u8]) -> Result<Table, Fault>
     let version = v.value as u8;
     let domains = d.value as u8;
     let count = n.value as u8;
-    let RowsRead { cursor, rows } = read_rows(s, domains, n)?;
+    let (cursor, rows) = read_rows(s, domains, n)?;
     if let Some(Gap { a, b, c }) = first_gap(rows, domains) {
         return Err(Fault {
             why: Refusal::Intransitive { a, b, c },

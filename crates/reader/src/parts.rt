@@ -4,7 +4,7 @@ ghost use Rattle.table.specs.Threads.{fields_in};
 ghost use Rattle.reader.specs.Reader.{standing, Stands, HasRows, HasFields, HasThreads, row_from, rows_from, free, field_from, fields_from, threads_from, ended, read_of};
 
 use super::steps::{judge, next_number, read_ranged};
-use super::{Cursor, Fault, FieldsRead, RowsRead, ThreadsRead};
+use super::{Cursor, Fault};
 use basis::Refusal;
 use flow::row_passes;
 use table::{FIELDS, Table, Thread, field_range, fields_in, is_taken, make_thread, no_thread};
@@ -17,7 +17,7 @@ fn read_row(s: &[u8], domains: u8, i: u8, c: Cursor) -> Result<Cursor, Fault>
     judge(n, ok, Refusal::Row)
 }
 
-pub fn read_rows(s: &[u8], domains: u8, c: Cursor) -> Result<RowsRead, Fault>
+pub fn read_rows(s: &[u8], domains: u8, c: Cursor) -> Result<(Cursor, [u16; 16]), Fault>
     requires { domains ≤ 16 }
     ensures { HasRows result (rows_from s.now domains (standing c) domains) }
 {
@@ -27,7 +27,7 @@ pub fn read_rows(s: &[u8], domains: u8, c: Cursor) -> Result<RowsRead, Fault>
         k = read_row(s, domains, i, k)?;
         rows[i as usize] = k.value;
     }
-    Ok(RowsRead { cursor: k, rows })
+    Ok((k, rows))
 }
 
 // Whether field k of thread i may have the value v: only a priority can be taken.
@@ -67,7 +67,7 @@ fn read_fields(
     threads: [Thread; 32],
     i: u8,
     c: Cursor,
-) -> Result<FieldsRead, Fault>
+) -> Result<(Cursor, [u16; FIELDS]), Fault>
     requires { i ≤ 32 }
     ensures { HasFields result (fields_from s.now version domains threads i (standing c) (fields_in version)) }
 {
@@ -78,10 +78,16 @@ fn read_fields(
         at = read_field(s, version, domains, threads, i, fields, k, at)?;
         fields[k as usize] = at.value;
     }
-    Ok(FieldsRead { cursor: at, fields })
+    Ok((at, fields))
 }
 
-fn read_threads(s: &[u8], version: u8, domains: u8, c: Cursor, count: u8) -> Result<ThreadsRead, Fault>
+fn read_threads(
+    s: &[u8],
+    version: u8,
+    domains: u8,
+    c: Cursor,
+    count: u8,
+) -> Result<(Cursor, [Thread; 32]), Fault>
     requires { count ≤ 32 }
     ensures { HasThreads result (threads_from s.now version domains (standing c) count) }
 {
@@ -89,11 +95,11 @@ fn read_threads(s: &[u8], version: u8, domains: u8, c: Cursor, count: u8) -> Res
     let mut threads = [z; 32];
     let mut k = c;
     for i in 0..count {
-        let r = read_fields(s, version, domains, threads, i, k)?;
-        k = r.cursor;
-        threads[i as usize] = make_thread(r.fields);
+        let (next, fields) = read_fields(s, version, domains, threads, i, k)?;
+        k = next;
+        threads[i as usize] = make_thread(fields);
     }
-    Ok(ThreadsRead { cursor: k, threads })
+    Ok((k, threads))
 }
 
 // The threads, and the end of the bytes.
@@ -108,7 +114,7 @@ pub fn read_rest(
     requires { count ≤ 32 }
     ensures { read_of result ≡ ended s.now version domains count rows (threads_from s.now version domains (standing c) count) }
 {
-    let ThreadsRead { cursor, threads } = read_threads(s, version, domains, c, count)?;
+    let (cursor, threads) = read_threads(s, version, domains, c, count)?;
     if cursor.next < s.len() {
         return Err(Fault {
             why: Refusal::Extra,

@@ -19,5 +19,7 @@ pub mod LongestText
 pub mod ScanSteps
 pub mod CutLaws
 pub mod CountSteps
+pub mod CodeCuts
 pub mod JoinLaws
 pub mod ScanReads
+pub mod CodeJoins

@@ -1,6 +1,6 @@
 -- What the code asks of the numbers cut so far: whether another is wanted, and whether a line ends behind them.
 use Prim.Native.Nat.{ℕ, zero, suc, ◌+◌, ◌-◌, ◌*◌, ◌%◌, ◌≤◌, ◌<◌}
-use mathlib.Core.Path.{◌≡◌, refl, ◌∙◌, ap}
+use mathlib.Core.Path.{◌≡◌, refl, ◌∙◌}
 use mathlib.Core.List.{List, [], ◌∷◌}
 use mathlib.Core.Bool.{true, false}
 use native.Mathlib.Omega.{arith}
@@ -12,8 +12,6 @@ use Rattle.basis.specs.Tests.{pick, and, or}
 use Rattle.table.specs.Threads.{fields_in}
 use Rattle.codec.specs.Judging.{wanted}
 use Rattle.sheet.specs.Text.{line_over}
-use Rattle.sheet.specs.declared.Cutting.{Cutting}
-use Rattle.sheet.specs.Scan.{turned, scanned}
 
 -- 255 is no version either, and stands for those above.
 pub fields-above : (v : ℕ) → 256 ≤ v → fields_in 255 ≡ fields_in v
@@ -73,8 +71,3 @@ module _ (l : List ℕ) (n : ℕ) (h : 3 ≤ n) (k : n ≤ length l) (m : n ≡ 
 
   pub line_threads : get_or l 1 0 ≤ n - 3 → line_over (take n l) ≡ eqb ((n - 3 - get_or l 1 0) % fields_in (get_or l 0 0)) 0
   line_threads b = line_long l n h k ∙ rw (further, le-leb (get_or l 1 0) (n - 3) b)
-
--- One field more.
-pub scanned-next : (s : List ℕ) (c : Cutting) (i : ℕ) → c ≡ scanned s i → turned s c ≡ scanned s (i + 1)
-unfolding scanned
-scanned-next s c i e = let q : suc i ≡ i + 1 = omega arith in ap (turned s) e ∙ ap (scanned s) q
