@@ -23,6 +23,7 @@ pub fn read_rows(s: &[u8], domains: u8, c: Cursor) -> Result<(Cursor, [u16; 16])
 {
     let mut rows = [0u16; 16];
     let mut k = c;
+    // by its number, since a row is judged by its own domain: an iterator over the array is no plainer
     for i in 0..domains {
         k = read_row(s, domains, i, k)?;
         rows[i as usize] = k.value;
@@ -74,6 +75,7 @@ fn read_fields(
     let mut fields = [0u16; FIELDS];
     let n = fields_in(version);
     let mut at = c;
+    // by its number, since the range of a field goes by the fields so far, which an iterator over them would hold
     for k in 0..n {
         at = read_field(s, version, domains, threads, i, fields, k, at)?;
         fields[k as usize] = at.value;
@@ -94,6 +96,7 @@ fn read_threads(
     let z = no_thread();
     let mut threads = [z; 32];
     let mut k = c;
+    // by its number, since a thread is judged by those so far, which an iterator over them would hold
     for i in 0..count {
         let (next, fields) = read_fields(s, version, domains, threads, i, k)?;
         k = next;
