@@ -1,33 +1,34 @@
 // The parts of a table, each read with the cursor: rows, fields, threads, the end.
 ghost use Rattle.std.specs.Prelude.{◌≡◌, ◌≤◌};
 ghost use Rattle.table.specs.Threads.{fields_in};
-ghost use Rattle.reader.specs.Reader.{standing, place_of, rows_of, fields_of, threads_of, row_from, rows_from, free, field_from, fields_from, threads_from, ended, read_of};
+ghost use Rattle.reader.specs.Reader.{standing, Stands, HasRows, HasFields, HasThreads, row_from, rows_from, free, field_from, fields_from, threads_from, ended, read_of};
 
 use super::steps::{judge, next_number, read_ranged};
-use super::{Cursor, Fault, FieldsRead, RowsRead, ThreadsRead};
+use super::{Cursor, Fault};
 use basis::Refusal;
 use flow::row_passes;
 use table::{FIELDS, Table, Thread, field_range, fields_in, is_taken, make_thread, no_thread};
 
 fn read_row(s: &[u8], domains: u8, i: u8, c: Cursor) -> Result<Cursor, Fault>
-    ensures { place_of result ≡ row_from s.now domains i (standing c) }
+    ensures { Stands result (row_from s.now domains i (standing c)) }
 {
     let n = next_number(s, c)?;
     let ok = row_passes(domains, i, n.value);
     judge(n, ok, Refusal::Row)
 }
 
-pub fn read_rows(s: &[u8], domains: u8, c: Cursor) -> Result<RowsRead, Fault>
+pub fn read_rows(s: &[u8], domains: u8, c: Cursor) -> Result<(Cursor, [u16; 16]), Fault>
     requires { domains ≤ 16 }
-    ensures { rows_of result (rows_from s.now domains (standing c) domains) }
+    ensures { HasRows result (rows_from s.now domains (standing c) domains) }
 {
     let mut rows = [0u16; 16];
     let mut k = c;
+    // by its number, since a row is judged by its own domain: an iterator over the array is no plainer
     for i in 0..domains {
         k = read_row(s, domains, i, k)?;
         rows[i as usize] = k.value;
     }
-    Ok(RowsRead { cursor: k, rows })
+    Ok((k, rows))
 }
 
 // Whether field k of thread i may have the value v: only a priority can be taken.
@@ -52,7 +53,7 @@ fn read_field(
     c: Cursor,
 ) -> Result<Cursor, Fault>
     requires { i ≤ 32 }
-    ensures { place_of result ≡ field_from s.now version domains threads i fields k (standing c) }
+    ensures { Stands result (field_from s.now version domains threads i fields k (standing c)) }
 {
     let range = field_range(version, domains, fields, k);
     let f = read_ranged(s, c, range, Refusal::Field)?;
@@ -67,33 +68,41 @@ fn read_fields(
     threads: [Thread; 32],
     i: u8,
     c: Cursor,
-) -> Result<FieldsRead, Fault>
+) -> Result<(Cursor, [u16; FIELDS]), Fault>
     requires { i ≤ 32 }
-    ensures { fields_of result (fields_from s.now version domains threads i (standing c) (fields_in version)) }
+    ensures { HasFields result (fields_from s.now version domains threads i (standing c) (fields_in version)) }
 {
     let mut fields = [0u16; FIELDS];
     let n = fields_in(version);
     let mut at = c;
+    // by its number, since the range of a field goes by the fields so far, which an iterator over them would hold
     for k in 0..n {
         at = read_field(s, version, domains, threads, i, fields, k, at)?;
         fields[k as usize] = at.value;
     }
-    Ok(FieldsRead { cursor: at, fields })
+    Ok((at, fields))
 }
 
-fn read_threads(s: &[u8], version: u8, domains: u8, c: Cursor, count: u8) -> Result<ThreadsRead, Fault>
+fn read_threads(
+    s: &[u8],
+    version: u8,
+    domains: u8,
+    c: Cursor,
+    count: u8,
+) -> Result<(Cursor, [Thread; 32]), Fault>
     requires { count ≤ 32 }
-    ensures { threads_of result (threads_from s.now version domains (standing c) count) }
+    ensures { HasThreads result (threads_from s.now version domains (standing c) count) }
 {
     let z = no_thread();
     let mut threads = [z; 32];
     let mut k = c;
+    // by its number, since a thread is judged by those so far, which an iterator over them would hold
     for i in 0..count {
-        let r = read_fields(s, version, domains, threads, i, k)?;
-        k = r.cursor;
-        threads[i as usize] = make_thread(r.fields);
+        let (next, fields) = read_fields(s, version, domains, threads, i, k)?;
+        k = next;
+        threads[i as usize] = make_thread(fields);
     }
-    Ok(ThreadsRead { cursor: k, threads })
+    Ok((k, threads))
 }
 
 // The threads, and the end of the bytes.
@@ -108,7 +117,7 @@ pub fn read_rest(
     requires { count ≤ 32 }
     ensures { read_of result ≡ ended s.now version domains count rows (threads_from s.now version domains (standing c) count) }
 {
-    let ThreadsRead { cursor, threads } = read_threads(s, version, domains, c, count)?;
+    let (cursor, threads) = read_threads(s, version, domains, c, count)?;
     if cursor.next < s.len() {
         return Err(Fault {
             why: Refusal::Extra,
