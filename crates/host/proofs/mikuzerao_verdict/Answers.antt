@@ -1,4 +1,4 @@
-use Rattle.std.proofs.Common.{◌≡◌, ◌∙◌, sym}
+use Rattle.std.proofs.Common.{◌∙◌, sym}
 use Rattle.host.proofs.HostLaws.{read_table, read_number}
 use Rattle.host.proofs.mikuzerao_verdict.Goals as goal
 
