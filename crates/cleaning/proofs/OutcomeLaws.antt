@@ -2,7 +2,7 @@
 use Prim.Native.Nat.{ℕ, ◌<◌, ◌≤◌}
 use mathlib.Core.Path.{◌≡◌, refl, sym, ◌∙◌, ap}
 use mathlib.Core.List.{List, [], ◌∷◌}
-use mathlib.Core.Bool.{true, false}
+use mathlib.Core.Bool.{false≢true, true, false}
 use native.Mathlib.Omega.{arith}
 use borrow.Author.Tests.{ltb-true, ltb-false, lt-ltb, le-ltb, le-leb, lt-leb}
 use lib.Dec.{eqb, ltb, leb}
@@ -15,7 +15,7 @@ use Rattle.basis.proofs.TestLaws.{by_test, either}
 use Rattle.table.specs.Legal.{legal}
 use Rattle.table.specs.declared.Table.{Table}
 use Rattle.cleaning.specs.declared.Cleaning.{Cleaning}
-use Rattle.std.specs.Prelude.{Result, Ok, Err}
+use Rattle.std.specs.Prelude.{Result, Ok, Err, is_ok, IsErrAnd}
 use Rattle.basis.specs.Refusals.{given_or}
 use Rattle.basis.specs.declared.refusal.Refusal.{Refusal}
 use Rattle.basis.specs.declared.refusal.Refusal.TheVariants.{NotLegal, NoRoom, TraceByte}
@@ -81,6 +81,25 @@ whole-outcome t w tr ys s =
 pub outcome-is : (t : Table) (w tr : List ℕ) (ys zs : List Cleaning) (r : Result ℕ Refusal) → Ways t w → r ≡ reported t tr (length ys) → zs ≡ pasted (given_or 0 r) (scanned t.count w tr) ys
     → outcome r zs ≡ listing t tr ys
 outcome-is t w tr ys zs r s e f = rw (f, e) (whole-outcome t w tr ys s)
+
+-- An error that is handed on is the one that came.
+pub handed : (r : Result ℕ Refusal) (e : Refusal) (q : Result ℕ Refusal) → IsErrAnd r (λ x. x ≡ e) → Err e ≡ q → r ≡ q
+handed (Ok n) e q h f = absurd h
+handed (Err x) e q h f = ap Err h ∙ f
+
+-- Of a refusal no list is written.
+pub refused-outcome : (t : Table) (tr : List ℕ) (ys : List Cleaning) (r : Result ℕ Refusal) → is_ok r ≡ false → r ≡ reported t tr (length ys) → outcome r ys ≡ listing t tr ys
+unfolding reported listing pick
+refused-outcome t tr ys r n e =
+    let q : is_ok (reported t tr (length ys)) ≡ false = rw e at n in
+    rw e
+    (by_test (legal t)
+    (λ a. by_test (all_known t.count tr)
+    (λ b. by_test (ltb (length ys) (length (cleanings t tr)))
+    (λ d. rw (a, b, d, lt-leb (length (cleanings t tr)) (length ys) (ltb-true _ _ d)))
+    (λ d. let z : true ≡ false = rw (a, b, d) at q in absurd (false≢true (sym z))))
+    (λ b. rw (a, b)))
+    (λ a. rw a))
 
 -- A refused call leaves the list as it was.
 pub clean_refused : (t : Table) (tr : List ℕ) (ys : List Cleaning) → 0 < (listing t tr ys).told.number → (listing t tr ys).list ≡ ys

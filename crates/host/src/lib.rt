@@ -27,6 +27,7 @@ fn refused(why: Refusal) -> u32
 }
 
 // The table in the bytes and the number of a thread that it has, or the refusal: the reader's, then 15.
+#[tactic(auto, using(crate::proofs::HostLaws::read_refuses))]
 fn thread_of(bytes: &[u8], thread: u32) -> Result<(Table, u8), Refusal>
     ensures cases { MatchResult result (λ p. (verdict bytes.now ≡ 0) × (p.0 ≡ (reading bytes.now).table) × (p.1 ≡ thread) × (thread < (reading bytes.now).table.count)) (λ why. Refuses bytes.now thread (number why)) }
     ensures bytes { Bytes bytes.now }
@@ -53,6 +54,7 @@ fn mark_number(t: Table, i: u8) -> u32
 }
 
 // The bound, 0 for none, or the refusal.
+#[tactic(auto, using(crate::proofs::HostLaws::refusal_told, crate::proofs::HostLaws::option_told))]
 fn bound_number(b: Result<Search, Refusal>) -> u32
     ensures { result ≡ told_number (told-bound b) }
 {
@@ -63,6 +65,7 @@ fn bound_number(b: Result<Search, Refusal>) -> u32
 }
 
 // The reader's verdict on the bytes: 0, or the refusal.
+#[tactic(auto, using(crate::proofs::HostLaws::read_number))]
 pub fn mikuzerao_verdict(bytes: &[u8]) -> u32
     ensures { (result ≡ verdict bytes.now) × Bytes bytes.now }
 {
@@ -73,6 +76,7 @@ pub fn mikuzerao_verdict(bytes: &[u8]) -> u32
 }
 
 // The thread that a thread's mark protects, 255 for none; 100,000 and the number on a refusal: the reader's, then 15.
+#[tactic(auto, using(crate::proofs::HostLaws::answering, crate::proofs::HostLaws::refused_only), unfolding(crate::specs::Host::thread_mark))]
 pub fn mikuzerao_mark(bytes: &[u8], thread: u32) -> u32
     ensures { (result ≡ thread_mark bytes.now thread) × Bytes bytes.now }
 {
@@ -83,6 +87,7 @@ pub fn mikuzerao_mark(bytes: &[u8], thread: u32) -> u32
 }
 
 // A thread's bound, 0 for none; 100,000 and the number on a refusal: the reader's, then 15.
+#[tactic(auto, using(crate::proofs::HostLaws::answering, crate::proofs::HostLaws::refused_only), unfolding(crate::specs::Host::thread_bound, crate::specs::Host::bound_number))]
 pub fn mikuzerao_bound(bytes: &[u8], thread: u32) -> u32
     ensures { (result ≡ thread_bound bytes.now thread) × Bytes bytes.now }
 {

@@ -6,7 +6,7 @@ ghost use Rattle.reader.specs.Reader.{reading, read_of};
 
 use basis::Refusal;
 use flow::{Gap, first_gap};
-use table::{Range, Table};
+use table::{DOMAIN_COUNTS, THREAD_COUNTS, Table, VERSIONS};
 
 mod parts;
 mod steps;
@@ -38,9 +38,9 @@ pub fn read(s: &[u8]) -> Result<Table, Fault>
         next: 0,
         value: 0,
     };
-    let v = read_ranged(s, from, Range { low: 1, below: 3 }, Refusal::Version)?;
-    let d = read_ranged(s, v, Range { low: 1, below: 17 }, Refusal::Count)?;
-    let n = read_ranged(s, d, Range { low: 1, below: 33 }, Refusal::Count)?;
+    let v = read_ranged(s, from, VERSIONS, Refusal::Version)?;
+    let d = read_ranged(s, v, DOMAIN_COUNTS, Refusal::Count)?;
+    let n = read_ranged(s, d, THREAD_COUNTS, Refusal::Count)?;
     let version = v.value as u8;
     let domains = d.value as u8;
     let count = n.value as u8;

@@ -66,13 +66,14 @@ fn explain_number(out: &mut [u8], why: Refusal, form: Form, c: &Cause, k: usize)
     let s = spot_of(c, k);
     let v = c.value.unwrap_or(0);
     match (why, s) {
-        // in a line of rows
+        // behind the sixteenth in a line of rows
         (_, Spot::Row(i)) if 15 < i => range::explain_rows(out),
         (Refusal::EndsEarly, _) => end::explain_end(out, form, c, k, s),
         (Refusal::NotShortest, _) => digits::explain_form(out, form, c, s),
         (Refusal::TooLarge, _) => digits::explain_large(out, s),
         (Refusal::Version, _) => range::explain_version(out, v),
         (Refusal::Count, Spot::Head(head)) => range::explain_count(out, v, head),
+        (Refusal::Count, _) => range::explain_rows(out),
         (Refusal::Row, Spot::Row(i)) => range::explain_row(out, c, v, i),
         (Refusal::Field, Spot::Field(i, field)) => range::explain_field(out, c, v, k, i, field),
         (Refusal::PriorityTaken, Spot::Field(i, _)) => range::explain_priority(out, c, v, i),

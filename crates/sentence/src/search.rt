@@ -47,25 +47,18 @@ pub fn find(text: &[u8], form: Form, place: usize) -> Cause {
     let mut next = 0;
     for at in 0..MOST {
         let read = number_at(text, form, next);
-        if next == place {
+        let starts = next == place;
+        let ends = form == Form::Sheet && read.is_ok_and(|n| n.next == place);
+        if starts || ends {
             return Cause {
                 at: Some(at),
                 value: read.ok().map(|n| n.value),
-                behind: false,
+                behind: !starts,
                 found,
                 numbers,
             };
         }
         let Ok(n) = read else { break };
-        if form == Form::Sheet && n.next == place {
-            return Cause {
-                at: Some(at),
-                value: None,
-                behind: true,
-                found,
-                numbers,
-            };
-        }
         numbers[at] = n.value;
         next = start_behind(text, form, n.next);
     }

@@ -21,7 +21,7 @@ use Rattle.reader.specs.Reader.{Read, no_table, reading}
 use Rattle.sheet.specs.declared.Stop.TheVariants.{NoNumber, WrongEnd}
 use Rattle.sheet.specs.declared.Cutting.{Cutting as TheCutting}
 use Rattle.sheet.specs.Sheet.{most_numbers, sheet_reading}
-use Rattle.sheet.specs.Scan.{Cutting, Verdict, Accepted, No, Intransitive, verdict_told, verdict_by, fault_read, stop_why, stop_ended, cut_of, told_cut, scanned, cut_bytes, numbers_in, ends_wrong, own, passed_by, start_of, objected_by, gapped_by, joined}
+use Rattle.sheet.specs.Scan.{Cutting, Verdict, Accepted, No, Intransitive, verdict_told, verdict_by, fault_read, stop_why, stop_ended, cut_of, told_cut, scanned, cut_bytes, numbers_in, ends_wrong, own, TellsOwn, passed_by, start_of, objected_by, gapped_by, joined}
 use Rattle.sheet.proofs.CodeCuts.{no_seven}
 use Rattle.sheet.proofs.CountSteps.{numbers-counted}
 use Rattle.sheet.proofs.SheetReaderLaws.{sheet_accepted_plain}
@@ -97,20 +97,20 @@ module _ (c : TheCutting) (k : ℕ) where
   no_number why e = rw e
 
   pub ends-so : (f : Fault) → c.stop ≡ Some (WrongEnd f) → c.count ≡ k + 1
-      → (ends_wrong (cut_of c) k ≡ true) × (number f.why ≡ (cut_of c).refusal) × (f.place ≡ (cut_of c).place)
+      → (ends_wrong (cut_of c) k ≡ true) × TellsOwn (cut_of c) f
   unfolding ends_wrong
-  ends-so f e h = rw (e, eq-eqb c.count (k + 1) h, ne_eqb (number f.why) 0 (λ z. omega (arith, z, number-positive f.why))) (refl, refl, refl)
+  ends-so f e h = rw (e, eq-eqb c.count (k + 1) h, ne_eqb (number f.why) 0 (λ z. omega (arith, z, number-positive f.why))) (refl, record { why = refl; place = refl })
 
 -- A fault of the code with the number and the place of the text's own.
-module _ (f : Fault) (c : Cutting) (h : c.refusal ≡ 7 → ⊥) (e : number f.why ≡ c.refusal) (p : f.place ≡ c.place) where
+module _ (f : Fault) (c : Cutting) (h : c.refusal ≡ 7 → ⊥) (o : TellsOwn c f) where
   pub own-read : fault_read f ≡ own c
   own-read =
-      let v : values f.why ≡ [] = plain-values f.why (λ z. h (sym e ∙ z)) in
-      λ i. record { told = record { number = e i; values = p i ∷ v i }; table = no_table }
+      let v : values f.why ≡ [] = plain-values f.why (λ z. h (sym o.why ∙ z)) in
+      λ i. record { told = record { number = o.why i; values = o.place i ∷ v i }; table = no_table }
 
   pub passed-own : (s : List ℕ) (r : Read) → fault_read f ≡ passed_by s c r
   unfolding passed_by pick
-  passed-own s r = rw (ne_eqb c.refusal 0 (λ z. omega (arith, z, e, number-positive f.why))) own-read
+  passed-own s r = rw (ne_eqb c.refusal 0 (λ z. omega (arith, z, o.why, number-positive f.why))) own-read
 
 -- The text has no fault of its own.
 module _ (s : List ℕ) (c : Cutting) (r : Read) (z : c.refusal ≡ 0) where

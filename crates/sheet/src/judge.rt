@@ -3,7 +3,7 @@ ghost use Rattle.std.specs.Prelude.{◌≡◌, ◌≢◌, ◌<◌, ◌≤◌, tr
 ghost use Rattle.basis.specs.Refusals.{number};
 ghost use Rattle.reader.specs.Reader.{read_of, accepted, no_table};
 ghost use Rattle.sheet.specs.Sheet.{most_numbers, sheet_reading};
-ghost use Rattle.sheet.specs.Scan.{fault_read, verdict_by, cut_of, told_cut, scanned, ends_wrong, cut_bytes, passed_by, joined};
+ghost use Rattle.sheet.specs.Scan.{fault_read, verdict_by, cut_of, told_cut, scanned, TellsOwn, ends_wrong, cut_bytes, passed_by, joined};
 
 use super::scan::scan;
 use super::{Cutting, MOST, Stop};
@@ -21,7 +21,7 @@ fn numbers_in(bytes: &[u8], n: usize) -> usize
 
 // The text's own fault.
 fn own_fault(cut: Cutting) -> Option<Fault>
-    ensures { MatchOption result ((cut_of cut).refusal ≡ 0) (λ f. (number f.why ≡ (cut_of cut).refusal) × (f.place ≡ (cut_of cut).place)) }
+    ensures { MatchOption result ((cut_of cut).refusal ≡ 0) (λ f. TellsOwn (cut_of cut) f) }
 {
     match cut.stop? {
         Stop::NoNumber(why) => Some(Fault {
@@ -52,7 +52,7 @@ fn passed(s: &[u8], cut: Cutting, t: Table) -> Result<Table, Fault>
 // The wrong end of number k, the last one cut.
 fn wrong_end(cut: Cutting, k: usize) -> Option<Fault>
     requires { k < 9223372036854775808 }
-    ensures { MatchOption result (ends_wrong (cut_of cut) k ≡ false) (λ f. (ends_wrong (cut_of cut) k ≡ true) × (number f.why ≡ (cut_of cut).refusal) × (f.place ≡ (cut_of cut).place)) }
+    ensures { MatchOption result (ends_wrong (cut_of cut) k ≡ false) (λ f. (ends_wrong (cut_of cut) k ≡ true) × TellsOwn (cut_of cut) f) }
 {
     if cut.count != k + 1 {
         return None;

@@ -89,7 +89,7 @@ fn take_ended(w: Windows, f: Field) -> Windows
     }
 }
 
-// The line's field, one character further.
+// The line's field, one character further; rows have the like (`row_line.rt` says why there is no trait).
 #[tactic(auto, unfolding(crate::specs::FrameLines::window_character, crate::specs::FrameLines::with_field, basis::specs::Tests::pick))]
 fn take_field(w: Windows, f: Field) -> Windows
     ensures { windows_of result ≡ window_character (windows_of w) (field_of f) }

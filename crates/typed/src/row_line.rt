@@ -85,7 +85,7 @@ fn take_row(r: Rows, f: Field) -> Rows
     }
 }
 
-// The line's field, one character further.
+// The line's field, one character further. Windows have the like: a trait of both, with its laws, would be longer than the two functions.
 #[tactic(auto, unfolding(crate::specs::RowLine::row_character, basis::specs::Tests::pick, crate::specs::RowLine::with_field))]
 fn take_field(r: Rows, f: Field) -> Rows
     ensures { rows_of result ≡ row_character (rows_of r) (field_of f) }

@@ -5,7 +5,7 @@ use Rattle.cleaning.proofs.fill.Given as goal
 
 abbrev pub invariant-loop-k : goal.invariant-loop-k
 invariant-loop-k l = record {
-  within : l.k ≤ l.k-end;
+  within : l.k ≤ l.m;
   at_hand : l.found ≡ first (drop l.k (scanned l.n l.w l.trace));
   written : l.list ≡ pasted l.k (scanned l.n l.w l.trace) l.initial.list;
 }

@@ -1,11 +1,8 @@
 use Rattle.std.proofs.Common.{refl, ap, arith}
 use Rattle.table.specs.declared.Table.{Table}
-use Rattle.host.proofs.HostLaws.{read_table, read_refuses}
+use Rattle.host.proofs.HostLaws.{read_table}
 use Rattle.host.specs.Host.{no_thread}
 use Rattle.host.proofs.thread_of.Goals as goal
-
-pub returns-in-Err-clause-cases : goal.returns-in-Err-clause-cases
-returns-in-Err-clause-cases c = read_refuses _ _ _ c.in-Err.ensures.0
 
 pub returns-then-from-thread-clause-cases : goal.returns-then-from-thread-clause-cases
 returns-then-from-thread-clause-cases c =

@@ -9,13 +9,13 @@ use Rattle.sheet.proofs.judge.objected.Goals.{in-EndsEarly+in_default-own_fault,
 
 pub returns-in-Some : goal.returns-in-Some
 returns-in-Some c =
-    own-read c.in-Some.own (cut_of c.args.cut) c.requires.own c.in-Some.ensures.0 c.in-Some.ensures.1
+    own-read c.in-Some.own (cut_of c.args.cut) c.requires.own c.in-Some.ensures
     ∙ missing-own c.args.s.now (cut_of c.args.cut) c.args.bytes.now c.args.fault.place _ c.args.fault.why (ap number c.in-EndsEarly.is)
 
 pub returns-in-Some-wrong_end : goal.returns-in-Some-wrong_end
 returns-in-Some-wrong_end c =
     let e = c.in-Some-wrong_end.ensures in
-    own-read c.in-Some-wrong_end.own (cut_of c.args.cut) c.requires.own e.1 e.2
+    own-read c.in-Some-wrong_end.own (cut_of c.args.cut) c.requires.own e.1
     ∙ gap-own c.args.s.now (cut_of c.args.cut) c.args.bytes.now c.args.fault.place _ c.args.fault.why (ap number c.in-Intransitive.is) c.numbers_in-k.ensures.0 e.0
 
 pub returns : goal.returns

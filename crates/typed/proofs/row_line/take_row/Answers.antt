@@ -1,5 +1,4 @@
 -- A field that is a row has no fault, and the number of a fault is not 0.
-use mathlib.Core.Path.{◌≡◌}
 use native.Mathlib.Omega.{arith}
 use borrow.Author.Tests.{eq-eqb, ne_eqb}
 use Rattle.basis.specs.Tests.{pick}
