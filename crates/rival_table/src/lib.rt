@@ -7,15 +7,16 @@ mod judge;
 mod rank;
 mod relation;
 
-pub use judge::{is_held, legal};
-pub use rank::{NOBODY, leaks, order};
-pub use relation::{Gap, first_gap, flows, row_is_good};
+use basis::Refusal;
+pub use judge::{NO_THREAD, is_held, legal};
+pub use rank::{Order, leaks, order};
+pub use relation::{first_gap, flows, row_is_good};
 use table::{Mark, Table};
 
-// The leak mark of each thread; none where the table is not legal.
-pub fn marks(t: Table) -> [Mark; 32] {
+// The leak mark of each thread; refuses with 11.
+pub fn marks(t: Table) -> Result<[Mark; 32], Refusal> {
     if !legal(t) {
-        return rank::no_marks();
+        return Err(Refusal::NotLegal);
     }
-    rank::marks(t, order(t))
+    Ok(rank::marks(t, order(t)))
 }
