@@ -97,11 +97,9 @@ fn step_over(t: Table, p: Prepared, s: State, mask: u32, bytes: &[u8]) -> Steppe
         return refuse(Refusal::LastClock, s);
     }
     let w = advance(t, p, s, mask, bytes);
-    let a = w.answer;
-    let next = w.state;
     Stepped {
-        outcome: Ok(a),
-        state: next,
+        outcome: Ok(w.answer),
+        state: w.state,
     }
 }
 

@@ -131,6 +131,10 @@ pub after_deadline : (th : Thread) (p : Progress) → th.deadline ≤ p.since �
 unfolding by_event pick
 after_deadline th p h = rw (le-leb _ _ h)
 
+-- A cut takes all of both rests, and leaves the finish mark and the count.
+pub cut_empties : (p : Progress) → ((cut p).rest ≡ 0) × ((cut p).execution ≡ 0) × ((cut p).finished ≡ p.finished) × ((cut p).ran ≡ p.ran)
+cut_empties p = (refl, refl, refl, refl)
+
 -- A release refills, whichever the kind; so the rest is W then.
 refills : (t : Table) (i mask : ℕ) (s : State) → releases t i mask s ≡ true
     → released (thread t i) s.clock (has_event mask i) (progress s i) ≡ refilled (thread t i) (progress s i)

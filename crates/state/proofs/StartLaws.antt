@@ -13,10 +13,11 @@ use Rattle.basis.proofs.SearchLaws.{listed_at}
 use Rattle.table.specs.Threads.{thread}
 use Rattle.table.specs.Legal.{legal}
 use Rattle.table.specs.declared.Table.{Table}
-use Rattle.state.specs.State.{no_progress, with_since, progress, ready, fresh, no_state, told, starting, fresh_given}
-use Rattle.state.specs.declared.Starting.{Starting}
-use Rattle.state.specs.declared.Starting.TheVariants.{Done, NotLegal}
-use Rattle.state.specs.declared.Started.{Started}
+use Rattle.state.specs.State.{no_progress, with_since, progress, ready, fresh, no_state, told, given, starting, fresh_given}
+use Rattle.state.specs.declared.State.{State}
+use Rattle.basis.specs.declared.refusal.Refusal.{Refusal}
+use Rattle.basis.proofs.RefusalLaws.{done-apart}
+use Rattle.std.specs.Prelude.{Result}
 use Rattle.state.proofs.FitLaws.{longest-event, longest_periodic}
 
 -- Fresh: the clock is 0, all is zero and unmarked, and an event thread has P steps since release.
@@ -57,17 +58,7 @@ pub fresh-legal : (t : Table) → legal t ≡ true → fresh_given t ≡ fresh t
 unfolding fresh_given pick
 fresh-legal t l = rw l
 
-told_injective : (a b : Starting) → told a ≡ told b → a ≡ b
-told_injective Done Done e = refl
-told_injective Done NotLegal e = let n = ap (λ (t : Told). t.number) e in absurd (omega arith)
-told_injective NotLegal Done e = let n = ap (λ (t : Told). t.number) e in absurd (omega arith)
-told_injective NotLegal NotLegal e = refl
-
 -- No second answer fits `fresh`.
-pub fresh_unique : (t : Table) (r q : Started) → (told r.answer ≡ starting t) × (r.state ≡ fresh_given t)
-    → (told q.answer ≡ starting t) × (q.state ≡ fresh_given t) → r ≡ q
-fresh_unique t r q e f =
-    let a : r.answer ≡ q.answer = told_injective _ _ (e.0 ∙ sym f.0) in
-    let m : r.state ≡ q.state = e.1 ∙ sym f.1 in
-    let h : ◌≡◌ {A = Started} (record { answer = r.answer; state = r.state }) (record { answer = q.answer; state = q.state }) = rw (a, m) in
-    h
+pub fresh_unique : (t : Table) (r q : Result State Refusal) → (told r ≡ starting t) × (given r ≡ fresh_given t)
+    → (told q ≡ starting t) × (given q ≡ fresh_given t) → r ≡ q
+fresh_unique t r q e f = done-apart _ r q (e.0 ∙ sym f.0) (e.1 ∙ sym f.1)

@@ -78,14 +78,12 @@ pub fn fits(t: Table, s: State) -> bool
     if 1000000000 < clock {
         return false;
     }
-    let mut i: u8 = 0;
-    while i < 32 {
+    for i in 0..32u8 {
         let th = t.threads[i as usize];
         let p = s.threads[i as usize];
         if !place_fits(th, i < t.count, clock, p) {
             return false;
         }
-        i += 1;
     }
     true
 }

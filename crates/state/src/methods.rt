@@ -24,8 +24,7 @@ fn aged(th: Thread, mut p: Progress) -> Progress
     ensures { result ≡ aged th p }
 {
     if p.since < longest_since(th) {
-        p.since = p.since + 1;
-        return p;
+        p.since += 1;
     }
     p
 }
@@ -36,9 +35,7 @@ impl State {
         requires { (i < 32) × (0 < (progress self i).rest) }
         ensures { result ≡ pay self i }
     {
-        let mut p = self.threads[i as usize];
-        p.rest = p.rest - 1;
-        self.threads[i as usize] = p;
+        self.threads[i as usize].rest -= 1;
         self
     }
 
@@ -47,9 +44,7 @@ impl State {
         requires { i < 32 }
         ensures { result ≡ finish self i }
     {
-        let mut p = self.threads[i as usize];
-        p.finished = true;
-        self.threads[i as usize] = p;
+        self.threads[i as usize].finished = true;
         self
     }
 
@@ -58,10 +53,9 @@ impl State {
         requires { (i < 32) × ((progress self i).ran < last_clock) × (0 < (progress self i).execution) }
         ensures { result ≡ count self i }
     {
-        let mut p = self.threads[i as usize];
-        p.ran = p.ran + 1;
-        p.execution = p.execution - 1;
-        self.threads[i as usize] = p;
+        let p = &mut self.threads[i as usize];
+        p.ran += 1;
+        p.execution -= 1;
         self
     }
 
@@ -71,14 +65,11 @@ impl State {
         ensures { result ≡ tick t self }
     {
         let clock = self.clock + 1;
-        let count = t.count as usize;
         let mut next = self;
-        let mut i: usize = 0;
-        while i < count {
+        for i in 0..t.count as usize {
             let th = t.threads[i];
             let p = next.threads[i];
             next.threads[i] = aged(th, p);
-            i += 1;
         }
         next.clock = clock;
         next

@@ -97,15 +97,12 @@ impl State {
         ensures { result ≡ release t mask self }
     {
         let clock = self.clock;
-        let count = t.count;
         let mut next = self;
-        let mut i: u8 = 0;
-        while i < count {
+        for i in 0..t.count {
             let th = t.threads[i as usize];
             let p = next.threads[i as usize];
             let event = has_event(mask, i);
             next.threads[i as usize] = released(th, clock, event, p);
-            i += 1;
         }
         next
     }

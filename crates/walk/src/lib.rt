@@ -44,9 +44,10 @@ pub fn prepare(t: Table) -> Prepared
     requires { t.count ≤ 32 }
     ensures { (result.order.count ≤ 32) × (ranked result.order ≡ order t) × (result.marks ≡ marks_of t) }
 {
-    let order = rank(t);
-    let marks = mark_all(t);
-    Prepared { order, marks }
+    Prepared {
+        order: rank(t),
+        marks: mark_all(t),
+    }
 }
 
 // The same for a window of domain d: the walk goes over the threads that are open to d, with the window's marks.
@@ -54,10 +55,11 @@ pub fn narrow(t: Table, p: Prepared, d: u8) -> Prepared
     requires { (t.count ≤ 32) × (p.order.count ≤ 32) × Below t.count (ranked p.order) × (p.marks ≡ marks_of t) }
     ensures { (result.order.count ≤ 32) × (ranked result.order ≡ open_to t d (ranked p.order)) × (result.marks ≡ marks_in t d) }
 {
-    let all = p.order;
     let marks = p.marks;
-    let order = open_to(t, all, d);
-    Prepared { order, marks }
+    Prepared {
+        order: open_to(t, p.order, d),
+        marks,
+    }
 }
 
 // One step of a legal table from a fitting state, with a mask of events and one byte a thread.
@@ -67,14 +69,9 @@ pub fn advance(t: Table, p: Prepared, s: State, mask: u32, bytes: &[u8]) -> Walk
     requires fits { Fits t s × (s.clock < last_clock) × (length bytes.now ≤ 32) }
     ensures { result ≡ advance t p.marks (ranked p.order) (record { mask = mask; bytes = bytes.now }) s }
 {
-    let o = p.order;
-    let marks = p.marks;
-    let fresh = s.release(t, mask);
-    let w = walk(marks, fresh, o, bytes);
-    let a = w.answer;
-    let after = w.state;
+    let w = walk(p.marks, s.release(t, mask), p.order, bytes);
     Walked {
-        answer: a,
-        state: after.tick(t),
+        answer: w.answer,
+        state: w.state.tick(t),
     }
 }

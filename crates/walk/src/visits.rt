@@ -27,11 +27,7 @@ fn runs(b: u8, p: Progress) -> bool
 fn is_chosen(a: Answer) -> bool
     ensures { result ≡ chosen a }
 {
-    match a {
-        Answer::Ran(_) => true,
-        Answer::IdleFor(_) => true,
-        Answer::Idle => false,
-    }
+    a != Answer::Idle
 }
 
 // A thread that was heard pays, and runs, or the processor idles on its account, or the walk goes on.
@@ -48,8 +44,7 @@ fn decide(marks: [Mark; 32], s: State, i: u8, b: u8) -> Walked
             state: ran,
         };
     }
-    let mark = marks[i as usize];
-    if mark.is_some() {
+    if marks[i as usize].is_some() {
         return Walked {
             answer: Answer::IdleFor(i),
             state: paid,
@@ -85,20 +80,14 @@ pub fn walk(marks: [Mark; 32], s: State, o: Ranks, bytes: &[u8]) -> Walked
     requires counted { Counted 999999999 s × (length bytes.now ≤ 32) }
     ensures { result ≡ the-walk marks bytes.now (ranked o) s }
 {
-    let count = o.count as usize;
     let mut next = s;
-    let mut k: usize = 0;
-    while k < count {
+    for k in 0..o.count as usize {
         let i = o.at[k];
-        let b = bytes[i as usize];
-        let v = visit(marks, next, i, b);
-        let a = v.answer;
-        if is_chosen(a) {
+        let v = visit(marks, next, i, bytes[i as usize]);
+        if is_chosen(v.answer) {
             return v;
         }
-        let after = v.state;
-        next = after;
-        k += 1;
+        next = v.state;
     }
     Walked {
         answer: Answer::Idle,

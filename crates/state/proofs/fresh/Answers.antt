@@ -6,7 +6,7 @@ use Rattle.state.proofs.fresh.Goals as goal
 
 pub returns-then-not-legal : goal.returns-then-not-legal
 unfolding starting fresh_given pick
-returns-then-not-legal c = let e = sym c.legal.ensures ∙ c.if-not-legal.true in (rw e, rw e c.no_state.ensures)
+returns-then-not-legal c = let e = sym c.legal.ensures ∙ c.if-not-legal.true in (rw e, rw e)
 
 pub fresh_state-requires : goal.fresh_state-requires
 fresh_state-requires c = (legal_small _ (sym c.legal.ensures ∙ c.if-not-legal.false)).1

@@ -8,10 +8,10 @@ use native.Mathlib.Omega.{arith}
 use Rattle.walk.proofs.advance.Goals as goal
 
 pub walk-w-requires : goal.walk-w-requires
-walk-w-requires c = let k : Counted 999999999 (release c.args.t c.args.mask c.args.s) = record { at = λ i. omega (arith, ((release-fits c.args.t c.args.mask c.args.s c.requires.fits.0).at i).ran_high, c.requires.fits.1) } in record { count_bound = c.requires.count_bound; counted = (rw c.release-fresh.ensures k, c.requires.fits.2) }
+walk-w-requires c = let k : Counted 999999999 (release c.args.t c.args.mask c.args.s) = record { at = λ i. omega (arith, ((release-fits c.args.t c.args.mask c.args.s c.requires.fits.0).at i).ran_high, c.requires.fits.1) } in record { count_bound = c.requires.count_bound; counted = (rw c.release.ensures k, c.requires.fits.2) }
 
 pub tick-requires : goal.tick-requires
-tick-requires c = (rw (c.walk-w.ensures, walk_clock, c.release-fresh.ensures, release_clock) c.requires.fits.1, c.requires.usable.few)
+tick-requires c = (rw (c.walk-w.ensures, walk_clock, c.release.ensures, release_clock) c.requires.fits.1, c.requires.usable.few)
 
 pub returns : goal.returns
 unfolding advance ticked

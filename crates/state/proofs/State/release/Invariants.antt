@@ -6,7 +6,4 @@ use Prim.Native.Nat.{◌≤◌, ◌-◌}
 use Rattle.state.proofs.State.release.Given as goal
 
 abbrev pub invariant-loop-i : goal.invariant-loop-i
-invariant-loop-i l = (l.i ≤ l.count) × (l.next ≡ each_thread (λ k. released (thread l.t k) l.initial.next.clock (has_event l.mask k)) l.i l.initial.next)
-
-abbrev pub decreases-loop-i : goal.decreases-loop-i
-decreases-loop-i l = l.count - l.i
+invariant-loop-i l = (l.i ≤ l.i-end) × (l.next ≡ each_thread (λ k. released (thread l.t k) l.initial.next.clock (has_event l.mask k)) l.i l.initial.next)

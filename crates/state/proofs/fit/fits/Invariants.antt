@@ -7,6 +7,3 @@ use Rattle.state.proofs.fit.fits.Given as goal
 
 abbrev pub invariant-loop-i : goal.invariant-loop-i
 invariant-loop-i l = (l.i ≤ 32) × (every l.i (λ j. place_fits l.t l.clock j (progress l.s j)) ≡ true)
-
-abbrev pub decreases-loop-i : goal.decreases-loop-i
-decreases-loop-i l = 32 - l.i

@@ -7,6 +7,6 @@ pub returns-then-p-longest_since : goal.returns-then-p-longest_since
 unfolding aged pick
 returns-then-p-longest_since c = simp (lt-ltb _ _ (rw c.longest_since.ensures at c.if-p-longest_since.true))
 
-pub returns : goal.returns
+pub returns-else-p-longest_since : goal.returns-else-p-longest_since
 unfolding aged pick
-returns c = rw (le-ltb _ _ (rw c.longest_since.ensures at c.if-p-longest_since.false))
+returns-else-p-longest_since c = rw (le-ltb _ _ (rw c.longest_since.ensures at c.if-p-longest_since.false))

@@ -23,10 +23,10 @@ pub returns-then-runs : goal.returns-then-runs
 unfolding pick decided pay
 returns-then-runs c = simp (sym c.runs.ensures ∙ c.if-runs.true, c.pay-paid.ensures, c.count-ran.ensures)
 
-pub returns-then-mark : goal.returns-then-mark
+pub returns-then-is_some : goal.returns-then-is_some
 unfolding pick decided pay
-returns-then-mark c = simp (sym c.runs.ensures ∙ c.if-runs.false, c.if-mark.true, c.pay-paid.ensures)
+returns-then-is_some c = simp (sym c.runs.ensures ∙ c.if-runs.false, sym c.is_some.ensures ∙ c.if-is_some.true, c.pay-paid.ensures)
 
 pub returns : goal.returns
 unfolding pick decided pay
-returns c = simp (sym c.runs.ensures ∙ c.if-runs.false, c.if-mark.false, c.pay-paid.ensures)
+returns c = simp (sym c.runs.ensures ∙ c.if-runs.false, sym c.is_some.ensures ∙ c.if-is_some.false, c.pay-paid.ensures)

@@ -9,10 +9,7 @@ use Rattle.order.specs.Order.{Below}
 use Rattle.walk.proofs.visits.walk.Given as goal
 
 abbrev pub invariant-loop-k : goal.invariant-loop-k
-invariant-loop-k l = (l.k ≤ l.count)
-    × Below (length l.bytes) (slice l.k l.count l.o.at)
+invariant-loop-k l = (l.k ≤ l.k-end)
+    × Below (length l.bytes) (slice l.k l.k-end l.o.at)
     × Counted 999999999 l.next
-    × (walk l.marks l.bytes (slice l.k l.count l.o.at) l.next ≡ walk l.marks l.bytes (slice 0 l.count l.o.at) l.initial.next)
-
-abbrev pub decreases-loop-k : goal.decreases-loop-k
-decreases-loop-k l = l.count - l.k
+    × (walk l.marks l.bytes (slice l.k l.k-end l.o.at) l.next ≡ walk l.marks l.bytes (slice 0 l.k-end l.o.at) l.initial.next)
