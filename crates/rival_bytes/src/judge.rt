@@ -4,7 +4,7 @@ use crate::form::{field_of, numbers, row_of, thread_of};
 use basis::Refusal;
 use flow::Gap;
 use reader::Fault;
-use rival_table::NO_THREAD;
+use rival_table::{NO_THREAD, unless};
 use table::{Table, Thread};
 
 // The table that has no number yet.
@@ -66,10 +66,6 @@ fn is_in_range(f: Thread, domains: u8, k: usize, v: u16) -> bool {
         6 => v <= f.budget,
         _ => v == 0 || (v == 1 && f.offset == 0),
     }
-}
-
-fn unless(good: bool, why: Refusal) -> Result<(), Refusal> {
-    if good { Ok(()) } else { Err(why) }
 }
 
 // Field k of thread i: 8, 9.

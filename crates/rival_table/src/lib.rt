@@ -13,10 +13,13 @@ pub use rank::{Order, leaks, order};
 pub use relation::{first_gap, flows, row_is_good};
 use table::{Mark, Table};
 
+// Refuses what is not good.
+pub fn unless(good: bool, why: Refusal) -> Result<(), Refusal> {
+    if good { Ok(()) } else { Err(why) }
+}
+
 // The leak mark of each thread; refuses with 11.
 pub fn marks(t: Table) -> Result<[Mark; 32], Refusal> {
-    if !legal(t) {
-        return Err(Refusal::NotLegal);
-    }
+    unless(legal(t), Refusal::NotLegal)?;
     Ok(rank::marks(t, order(t)))
 }
