@@ -39,7 +39,7 @@ fn row(seed: u64, domains: u8, i: u8, one_in: u16) -> u16 {
 fn harmed(seed: u64, rows: [u16; 18]) -> [u16; 18] {
     let mut h = rows;
     if seldom(seed, 3, 8) {
-        h[below(seed, 4, 16) as usize % 16] ^= only(below(seed, 5, 16));
+        h[below(seed, 4, 16u8) as usize % 16] ^= only(below(seed, 5, 16));
     }
     h
 }
