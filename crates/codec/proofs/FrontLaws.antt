@@ -18,8 +18,8 @@ use Rattle.table.specs.declared.Thread.{Thread}
 use Rattle.numeral.specs.Number.{Number}
 use Rattle.numeral.specs.Number.{third, second, number, number_at}
 use Rattle.table.proofs.RangeLaws.{fields_in-most}
-use Rattle.reader.specs.declared.Cursor.{Cursor}
-use Rattle.reader.specs.declared.RowsRead.{RowsRead}
+use Rattle.reader.specs.Reader.{Cursor}
+use Rattle.reader.specs.Reader.{RowsRead}
 use Rattle.reader.specs.Reader.{took, good, number_from, judged, ranged, row_from, rows_from, field_from, fields_from, threads_from, ended, after_rows, version_from, domains_from, count_from, reading}
 use Rattle.reader.proofs.ReaderLaws.{ranged_le}
 

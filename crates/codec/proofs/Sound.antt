@@ -27,10 +27,10 @@ use Rattle.table.proofs.RangeLaws.{field_range_by, fields_back, fields_in-most, 
 use Rattle.table.proofs.LegalLaws.{Parts, legal_of_parts}
 use Rattle.numeral.specs.Number.{Number}
 use Rattle.numeral.specs.Number.{Value, Refused}
-use Rattle.reader.specs.declared.Cursor.{Cursor}
-use Rattle.reader.specs.declared.RowsRead.{RowsRead}
-use Rattle.reader.specs.declared.FieldsRead.{FieldsRead}
-use Rattle.reader.specs.declared.ThreadsRead.{ThreadsRead}
+use Rattle.reader.specs.Reader.{Cursor}
+use Rattle.reader.specs.Reader.{RowsRead}
+use Rattle.reader.specs.Reader.{FieldsRead}
+use Rattle.reader.specs.Reader.{ThreadsRead}
 use Rattle.numeral.specs.Number.{number_at, encode, encode_all}
 use Rattle.writer.specs.Format.{row_numbers, written_fields, thread_numbers, numbers, bytes}
 use Rattle.reader.specs.Reader.{good, took, number_from, judged, ranged, row_from, rows_from, free, field_from, fields_from, threads_from, Read, accepted, refused_at, whole_or_gap, ended, after_rows, version_from, domains_from, count_from, reading}

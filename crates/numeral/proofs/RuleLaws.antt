@@ -1,17 +1,23 @@
 -- A number is read exactly where the rules say that one stands, and refused exactly with what they give.
 use Prim.Native.Nat.{ℕ, ◌+◌, ◌-◌, ◌*◌, ◌≤◌}
-use mathlib.Core.Path.{◌≡◌, refl, subst}
+use mathlib.Core.Path.{◌≡◌, refl, sym, ap, ◌∙◌, subst}
 use mathlib.Core.List.{List, [], ◌∷◌}
 use mathlib.Core.Logic.{◌↔◌, ◌≢◌}
 use native.Mathlib.Omega.{arith}
 use lib.ListN.{length, drop}
 use lib.Dec.{eqb, ltb, leb}
 use borrow.Author.Tests.{le-leb, lt-leb, lt-ltb, le-ltb, ne_eqb, ltb-true, ltb-false, leb-true, leb-false, eqb-true, eqb-false}
+use Rattle.std.specs.Prelude.{Result, Ok, Err}
 use Rattle.basis.specs.Tests.{pick}
+use Rattle.basis.specs.Refusals.{number as number_of, values}
+use Rattle.basis.specs.declared.refusal.Refusal.{Refusal}
+use Rattle.basis.specs.declared.refusal.Refusal.TheVariants.{Intransitive}
+use Rattle.basis.proofs.RefusalLaws.{refused-apart}
 use Rattle.basis.proofs.TestLaws.{either}
 use Rattle.numeral.specs.Number.{Number}
 use Rattle.numeral.specs.Number.{Value, Refused}
-use Rattle.numeral.specs.Number.{third, second, number, number_at, encode}
+use Rattle.numeral.specs.Number.{third, second, number, number_at, given, encode}
+use Rattle.numeral.specs.declared.Numeral.{Numeral}
 use Rattle.numeral.specs.NumberRules.{of_three, NoNumber, first-missing, second-missing, third-missing, third-goes_on, second-zero, third-zero, too_large, NumberValue, one_byte, two_bytes, three-bytes, Rule, Bytes, Stands}
 use Rattle.numeral.proofs.NumberLaws.{number-encode, number_at_back}
 
@@ -99,3 +105,35 @@ value_exactly s at v next hs = (
   λ e. number_at_back s at v next hs e,
   λ h. rw (h.next_place, h.bytes) (number-encode v at (drop (length (encode v)) (drop at s)) h.small),
 )
+
+-- What refuses a number is 1, 2 or 3, and so comes with no values.
+few : {s : List ℕ} {why : ℕ} → NoNumber s why → why ≤ 3
+few first-missing = omega arith
+few (second-missing a ha) = omega arith
+few (third-missing a b ha hb) = omega arith
+few (third-goes_on a b c s ha hb hc) = omega arith
+few (second-zero a s ha) = omega arith
+few (third-zero a b s ha hb) = omega arith
+few (too_large a b c s ha hb hc kc hv) = omega arith
+
+few-plain : (why : Refusal) → number_of why ≤ 3 → values why ≡ []
+few-plain (Intransitive a b c) h = absurd (omega arith)
+few-plain why h = refl
+
+pub refused-plain : (s : List ℕ) (at : ℕ) (why : Refusal) → given (Err why) ≡ number_at s at → values why ≡ []
+refused-plain s at why e = few-plain why (few ((number_exactly s at (given (Err why))).0 (sym e)))
+
+-- No second answer fits `read_number`.
+pub read_number_unique : (s : List ℕ) (at : ℕ) (r q : Result Numeral Refusal) → given r ≡ number_at s at → given q ≡ number_at s at → r ≡ q
+read_number_unique s at (Ok n) (Ok m) e f =
+    let g : given (Ok n) ≡ given (Ok m) = e ∙ sym f in
+    let v : n.value ≡ m.value = cc in
+    let w : n.next ≡ m.next = cc in
+    ap Ok (λ i. record { value = v i; next = w i })
+read_number_unique s at (Ok n) (Err why) e f = let g : given (Ok n) ≡ given (Err why) = e ∙ sym f in cc
+read_number_unique s at (Err why) (Ok n) e f = let g : given (Err why) ≡ given (Ok n) = e ∙ sym f in cc
+read_number_unique s at (Err why) (Err other) e f =
+    let g : Refused (number_of why) ≡ Refused (number_of other) = e ∙ sym f in
+    let n : number_of why ≡ number_of other = cc in
+    let v : values why ≡ values other = refused-plain s at why e ∙ sym (refused-plain s at other f) in
+    ap Err (refused-apart why other (cc))

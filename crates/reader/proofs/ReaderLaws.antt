@@ -1,18 +1,22 @@
 -- Laws of the reader's parts: one turn of each of its loops, and how large what it read can be.
 use Prim.Native.Nat.{ℕ, zero, suc, ◌+◌, ◌-◌, ◌≤◌, ◌<◌}
-use mathlib.Core.Path.{◌≡◌, refl, sym, ◌∙◌, ap}
-use mathlib.Core.List.{List}
+use mathlib.Core.Path.{◌≡◌, refl, sym, ◌∙◌, ap, subst}
+use mathlib.Core.List.{List, ◌∷◌}
 use mathlib.Core.Bool.{Bool}
 use mathlib.Core.Logic.{⊎_elim}
 use native.Mathlib.Nat.{eq-or-lt_of_le}
+use native.Mathlib.Decide.{le_ind}
 use native.Mathlib.Numerals.{add-one}
 use native.Mathlib.Omega.{arith}
 use lib.ListN.{length, get_or, length-set}
 use lib.Seq.{get_or-set_same, get_or-set_other}
 use lib.Dec.{eqb, ltb}
-use borrow.Author.Tests.{eqb-false, ltb-true, ltb-false}
+use borrow.Author.Tests.{ne_eqb, eqb-false, ltb-true, ltb-false}
 use Rattle.basis.specs.Tests.{pick}
+use Rattle.std.specs.Prelude.{Result, Ok, Err, IsErrAnd}
 use Rattle.basis.specs.Told.{Told}
+use Rattle.basis.specs.Refusals.{number, values}
+use Rattle.basis.proofs.RefusalLaws.{refused-apart, number-positive}
 use Rattle.basis.specs.Search.{Sought, nothing, found}
 use Rattle.basis.proofs.TestLaws.{by_test, either}
 use Rattle.basis.proofs.ListLaws.{all_alike}
@@ -20,16 +24,15 @@ use Rattle.flow.specs.Gap.{Triple, first_gap}
 use Rattle.table.specs.Threads.{field_count, fields_in, Narrow}
 use Rattle.table.specs.Ranges.{within, versions, domain_counts, thread_counts, field_range}
 use Rattle.table.specs.declared.Range.{Range}
+use Rattle.table.specs.declared.Table.{Table}
 use Rattle.table.specs.declared.Thread.{Thread}
 use Rattle.table.proofs.RangeLaws.{within_high, field_range_by, narrow_by}
-use Rattle.reader.specs.declared.Cursor.{Cursor}
-use Rattle.reader.specs.declared.RowsRead.{RowsRead}
-use Rattle.reader.specs.declared.FieldsRead.{FieldsRead}
-use Rattle.reader.specs.declared.ThreadsRead.{ThreadsRead}
-use Rattle.reader.specs.declared.Verdict.{Verdict}
-use Rattle.reader.specs.declared.Verdict.TheVariants.{Accepted, Refused, Intransitive}
-use Rattle.reader.specs.declared.Reading.{Reading}
-use Rattle.reader.specs.Reader.{Read, told, read_of, good, number_from, judged, ranged, row_from, put_row, rows_from, free, field_from, put_field, fields_from, put_thread, threads_from, accepted, no_table, ended, whole_or_gap, after_rows, version_from, domains_from, count_from, reading}
+use Rattle.reader.specs.declared.Fault.{Fault}
+use Rattle.reader.specs.declared.Cursor.{Cursor as CursorInHand}
+use Rattle.reader.specs.declared.RowsRead.{RowsRead as RowsInHand}
+use Rattle.reader.specs.declared.FieldsRead.{FieldsRead as FieldsInHand}
+use Rattle.reader.specs.declared.ThreadsRead.{ThreadsRead as ThreadsInHand}
+use Rattle.reader.specs.Reader.{Cursor, RowsRead, FieldsRead, ThreadsRead, GivesUp, Stands, HasRows, HasFields, HasThreads, Read, told, table_of, read_of, good, number_from, judged, ranged, row_from, put_row, rows_from, free, field_from, put_field, fields_from, put_thread, threads_from, accepted, no_table, ended, whole_or_gap, after_rows, version_from, domains_from, count_from, reading}
 
 -- One turn of each loop.
 pub rows_next : (s : List ℕ) (d : ℕ) (c : Cursor) (i : ℕ) (k k' : Cursor) (rows : List ℕ) →
@@ -128,6 +131,11 @@ fields_small s v d ths i c n e h =
     ) (field_le s v d ths i (at k).fields k (at k).cursor))
     (λ t. rw (field_unread s v d ths i c k n (ltb-false k n t)) (omega arith)))
 
+-- What the code has in hand of them.
+pub fields_read : (s : List ℕ) (v d : ℕ) (ths : List Thread) (i : ℕ) (c : Cursor) (n : ℕ) (r : FieldsRead) → r ≡ fields_from s v d ths i c n → n ≤ field_count → d < 256
+    → Narrow r.fields
+fields_read s v d ths i c n r e h k = rw e (fields_small s v d ths i c n h k)
+
 -- The table of a refused reading is all zero.
 abbrev Zero : Read → Type 0
 Zero r = 0 < r.told.number → r.table ≡ no_table
@@ -190,26 +198,127 @@ accepted-plain s =
     (λ e. plain-gap r.cursor.start (first_gap r.rows d) _ (plain-ended s v d n r.rows (threads_from s v d r.cursor n)))
     (λ e h. absurd (eqb-false r.cursor.refusal 0 e h))
 
--- A verdict has one reading.
-pub told_injective : (v w : Verdict) → told v ≡ told w → v ≡ w
-told_injective Accepted Accepted e = refl
-told_injective Accepted (Refused y q) e = let v = ap (λ (t : Told). t.values) e in let z : ◌≡◌ {A = ℕ} 0 1 = cc in absurd (omega arith)
-told_injective Accepted (Intransitive q x y z) e = let n = ap (λ (t : Told). t.number) e in absurd (omega arith)
-told_injective (Refused x p) Accepted e = let v = ap (λ (t : Told). t.values) e in let z : ◌≡◌ {A = ℕ} 0 1 = cc in absurd (omega arith)
-told_injective (Refused x p) (Refused y q) e =
-    let v = ap (λ (t : Told). t.values) e in
-    let n : x ≡ y = ap (λ (t : Told). t.number) e in
-    cc
-told_injective (Refused x p) (Intransitive q a b c) e = let v = ap (λ (t : Told). t.values) e in let z : ◌≡◌ {A = ℕ} 0 1 = cc in absurd (omega arith)
-told_injective (Intransitive p a b c) Accepted e = let n = ap (λ (t : Told). t.number) e in absurd (omega arith)
-told_injective (Intransitive p a b c) (Refused y q) e = let v = ap (λ (t : Told). t.values) e in let z : ◌≡◌ {A = ℕ} 0 1 = cc in absurd (omega arith)
-told_injective (Intransitive p a b c) (Intransitive q x y z) e = let v = ap (λ (t : Told). t.values) e in cc
+-- What `?` hands on is the fault that it was given.
+handed_on : {T E : Type 0} {e : E} (P : Result T E → Type 0) (r : Result T E) → IsErrAnd r (λ y. y ≡ e) → P (Err e) → P r
+handed_on P (Ok t) h p = absurd h
+handed_on {E = E} P (Err y) h p = subst (λ (x : E). P (Err x)) (sym h) p
+
+module _ (f : Fault) where
+  pub number_ends : (k : Cursor) (r : Result CursorInHand Fault) → IsErrAnd r (λ y. y ≡ f) → GivesUp f k → Stands r k
+  number_ends k = handed_on (λ r. Stands r k)
+
+  pub rows_ends : (x : RowsRead) (r : Result RowsInHand Fault) → IsErrAnd r (λ y. y ≡ f) → GivesUp f x.cursor → HasRows r x
+  rows_ends x = handed_on (λ r. HasRows r x)
+
+  pub fields_ends : (x : FieldsRead) (r : Result FieldsInHand Fault) → IsErrAnd r (λ y. y ≡ f) → GivesUp f x.cursor → HasFields r x
+  fields_ends x = handed_on (λ r. HasFields r x)
+
+  pub threads_ends : (x : ThreadsRead) (r : Result ThreadsInHand Fault) → IsErrAnd r (λ y. y ≡ f) → GivesUp f x.cursor → HasThreads r x
+  threads_ends x = handed_on (λ r. HasThreads r x)
+
+  pub read_ends : (x : Read) (r : Result Table Fault) → IsErrAnd r (λ y. y ≡ f) → read_of (Err f) ≡ x → read_of r ≡ x
+  read_ends x = handed_on (λ r. read_of r ≡ x)
+
+-- Where the code gave up the reader stands refused, and nothing more is read.
+stuck : {A : Type 0} (f : Fault) (a b : A) → pick (eqb (number f.why) 0) a b ≡ b
+unfolding pick
+stuck f a b = rw (ne_eqb (number f.why) 0 (λ z. omega (arith, number-positive f.why)))
+
+number_stuck : {f : Fault} {c : Cursor} (s : List ℕ) → GivesUp f c → GivesUp f (number_from s c)
+unfolding number_from
+number_stuck {f} {c} s g = record { met = rw g.met (stuck f _ _); plain = g.plain }
+
+pub judged_stuck : {f : Fault} {c : Cursor} (ok : Bool) (why : ℕ) → GivesUp f c → GivesUp f (judged c ok why)
+unfolding judged
+judged_stuck {f} {c} ok why g = record { met = rw g.met (stuck f _ _); plain = g.plain }
+
+pub ranged_stuck : {f : Fault} {c : Cursor} (s : List ℕ) (r : Range) (why : ℕ) → GivesUp f c → GivesUp f (ranged s c r why)
+unfolding ranged
+ranged_stuck s r why g = judged_stuck _ why (number_stuck s g)
+
+row_stuck : {f : Fault} {c : Cursor} (s : List ℕ) (d i : ℕ) → GivesUp f c → GivesUp f (row_from s d i c)
+unfolding row_from
+row_stuck s d i g = judged_stuck _ 6 (number_stuck s g)
+
+rows_stuck : {f : Fault} {c : Cursor} (s : List ℕ) (d n : ℕ) → GivesUp f c → GivesUp f (rows_from s d c n).cursor
+unfolding rows_from
+rows_stuck s d zero g = g
+rows_stuck s d (suc n) g = row_stuck s d n (rows_stuck s d n g)
+
+field_stuck : {f : Fault} {c : Cursor} (s : List ℕ) (v d : ℕ) (ths : List Thread) (i : ℕ) (vs : List ℕ) (k : ℕ)
+    → GivesUp f c → GivesUp f (field_from s v d ths i vs k c)
+unfolding field_from
+field_stuck s v d ths i vs k g = judged_stuck _ 9 (ranged_stuck s _ 8 g)
+
+fields_stuck : {f : Fault} {c : Cursor} (s : List ℕ) (v d : ℕ) (ths : List Thread) (i n : ℕ) → GivesUp f c → GivesUp f (fields_from s v d ths i c n).cursor
+unfolding fields_from
+fields_stuck s v d ths i zero g = g
+fields_stuck s v d ths i (suc n) g = field_stuck s v d ths i _ n (fields_stuck s v d ths i n g)
+
+-- The loops give up at the turn that does.
+pub rows_end : {f : Fault} (s : List ℕ) (d : ℕ) (c : Cursor) (i n : ℕ) (k : Cursor) (rows : List ℕ) →
+    record { cursor = k; rows = rows } ≡ rows_from s d c i → i < n → GivesUp f (row_from s d i k) → GivesUp f (rows_from s d c n).cursor
+unfolding rows_from
+rows_end {f} s d c i n k rows e h g =
+    le_ind (λ (m : ℕ). GivesUp f (rows_from s d c m).cursor) (rw (← e) g) (λ m l r. row_stuck s d m r) n h
+
+pub fields_end : {f : Fault} (s : List ℕ) (v d : ℕ) (ths : List Thread) (i : ℕ) (c : Cursor) (k n : ℕ) (a : Cursor) (vs : List ℕ) →
+    record { cursor = a; fields = vs } ≡ fields_from s v d ths i c k → k < n → GivesUp f (field_from s v d ths i vs k a)
+    → GivesUp f (fields_from s v d ths i c n).cursor
+unfolding fields_from
+fields_end {f} s v d ths i c k n a vs e h g =
+    le_ind (λ (m : ℕ). GivesUp f (fields_from s v d ths i c m).cursor) (rw (← e) g) (λ m l r. field_stuck s v d ths i _ m r) n h
+
+pub threads_end : {f : Fault} (s : List ℕ) (v d : ℕ) (c : Cursor) (i n : ℕ) (k : Cursor) (ths : List Thread) →
+    record { cursor = k; threads = ths } ≡ threads_from s v d c i → i < n → GivesUp f (fields_from s v d ths i k (fields_in v)).cursor
+    → GivesUp f (threads_from s v d c n).cursor
+unfolding threads_from
+threads_end {f} s v d c i n k ths e h g =
+    le_ind (λ (m : ℕ). GivesUp f (threads_from s v d c m).cursor) (rw (← e) g) (λ m l r. fields_stuck s v d _ m (fields_in v) r) n h
+
+-- What is answered where the code gave up: at a thread, at a row, at the head.
+pub ended_stuck : {f : Fault} (s : List ℕ) (v d n : ℕ) (rows : List ℕ) (t : ThreadsRead) → GivesUp f t.cursor → read_of (Err f) ≡ ended s v d n rows t
+unfolding ended
+ended_stuck {f} s v d n rows t g = rw (g.met, g.plain) (sym (stuck f _ _))
+
+after_stuck : {f : Fault} (s : List ℕ) (v d n : ℕ) (r : RowsRead) → GivesUp f r.cursor → read_of (Err f) ≡ after_rows s v d n r
+unfolding after_rows
+after_stuck {f} s v d n r g = rw (g.met, g.plain) (sym (stuck f _ _))
+
+pub rows_refused : {f : Fault} (s : List ℕ) (v d n : Cursor) → v ≡ ranged s (good 0 0 0) versions 4 → d ≡ ranged s v domain_counts 5 →
+    n ≡ ranged s d thread_counts 5 → GivesUp f (rows_from s d.value n d.value).cursor → read_of (Err f) ≡ reading s
+rows_refused s v d n e1 e2 e3 g = rw (reading-is s v d n _ e1 e2 e3 refl) (after_stuck s v.value d.value n.value _ g)
+
+pub count_refused : {f : Fault} (s : List ℕ) (v d : Cursor) → v ≡ ranged s (good 0 0 0) versions 4 → d ≡ ranged s v domain_counts 5 →
+    GivesUp f (ranged s d thread_counts 5) → read_of (Err f) ≡ reading s
+count_refused s v d e1 e2 g = rows_refused s v d _ e1 e2 refl (rows_stuck s d.value d.value g)
+
+pub domains_refused : {f : Fault} (s : List ℕ) (v : Cursor) → v ≡ ranged s (good 0 0 0) versions 4 → GivesUp f (ranged s v domain_counts 5) → read_of (Err f) ≡ reading s
+domains_refused s v e1 g = count_refused s v _ e1 refl (ranged_stuck s thread_counts 5 g)
+
+pub version_refused : {f : Fault} (s : List ℕ) → GivesUp f (ranged s (good 0 0 0) versions 4) → read_of (Err f) ≡ reading s
+version_refused s g = domains_refused s _ refl (ranged_stuck s domain_counts 5 g)
+
+-- Faults that tell the same are the same: the number, the place and the values say which.
+fault_apart : (f g : Fault) → told (Err f) ≡ told (Err g) → f ≡ g
+fault_apart f g e =
+    let n : number f.why ≡ number g.why = ap (λ (t : Told). t.number) e in
+    let l : f.place ∷ values f.why ≡ g.place ∷ values g.why = ap (λ (t : Told). t.values) e in
+    let p : f.place ≡ g.place = cc in
+    let v : values f.why ≡ values g.why = cc in
+    let w : f.why ≡ g.why = refused-apart f.why g.why (cc) in
+    λ i. record { why = w i; place = p i }
+
+-- An answer has one reading.
+pub told_injective : (r q : Result Table Fault) → told r ≡ told q → table_of r ≡ table_of q → r ≡ q
+told_injective (Ok t) (Ok u) e h = ap Ok h
+told_injective (Ok t) (Err f) e h = let n : 0 ≡ number f.why = ap (λ (t : Told). t.number) e in absurd (omega (arith, number-positive f.why))
+told_injective (Err f) (Ok t) e h = let n : number f.why ≡ 0 = ap (λ (t : Told). t.number) e in absurd (omega (arith, number-positive f.why))
+told_injective (Err f) (Err g) e h = ap Err (fault_apart f g e)
+
+pub read_injective : (r q : Result Table Fault) → read_of r ≡ read_of q → r ≡ q
+read_injective r q e = told_injective r q (ap (λ (x : Read). x.told) e) (ap (λ (x : Read). x.table) e)
 
 -- No second answer fits `read`.
-pub read_unique : (s : List ℕ) (r q : Reading) → read_of r ≡ reading s → read_of q ≡ reading s → r ≡ q
-read_unique s r q e f =
-    let g : read_of r ≡ read_of q = e ∙ sym f in
-    let v : r.verdict ≡ q.verdict = told_injective _ _ (ap (λ (x : Read). x.told) g) in
-    let t : r.table ≡ q.table = ap (λ (x : Read). x.table) g in
-    let h : ◌≡◌ {A = Reading} (record { verdict = r.verdict; table = r.table }) (record { verdict = q.verdict; table = q.table }) = rw (v, t) in
-    h
+pub read_unique : (s : List ℕ) (r q : Result Table Fault) → read_of r ≡ reading s → read_of q ≡ reading s → r ≡ q
+read_unique s r q e f = read_injective r q (e ∙ sym f)

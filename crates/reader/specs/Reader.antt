@@ -1,8 +1,9 @@
 -- Reading a table: a number is read and then judged, and after a refusal nothing more is read, so that the leftmost fault wins.
-use Rattle.std.specs.Prelude.{ℕ, zero, suc, List, [], ◌∷◌, Bool, not, length, set, replicate, eqb, ltb}
+use Rattle.std.specs.Prelude.{ℕ, zero, suc, ◌≡◌, List, [], ◌∷◌, Bool, not, length, set, replicate, eqb, ltb, Result, Ok, Err}
 use Rattle.basis.specs.Tests.{pick, or}
 use Rattle.basis.specs.Search.{Sought, nothing, found}
 use Rattle.basis.specs.Told.{Told, answered}
+use Rattle.basis.specs.Refusals.{number, values}
 use Rattle.flow.specs.Flow.{row_ok}
 use Rattle.flow.specs.Gap.{Triple, first_gap}
 use Rattle.table.specs.Threads.{field_count, fields_in, thread_of, none}
@@ -13,14 +14,34 @@ use Rattle.table.specs.declared.Table.{Table}
 use Rattle.table.specs.declared.Thread.{Thread}
 use Rattle.numeral.specs.Number.{Number}
 use Rattle.numeral.specs.Number.{Value, Refused}
-use Rattle.reader.specs.declared.Cursor.{Cursor}
-use Rattle.reader.specs.declared.RowsRead.{RowsRead}
-use Rattle.reader.specs.declared.FieldsRead.{FieldsRead}
-use Rattle.reader.specs.declared.ThreadsRead.{ThreadsRead}
-use Rattle.reader.specs.declared.Verdict.{Verdict}
-use Rattle.reader.specs.declared.Verdict.TheVariants.{Accepted, Refused as No, Intransitive}
-use Rattle.reader.specs.declared.Reading.{Reading}
 use Rattle.numeral.specs.Number.{number_at}
+use Rattle.reader.specs.declared.Cursor.{Cursor as CursorInHand}
+use Rattle.reader.specs.declared.RowsRead.{RowsRead as RowsInHand}
+use Rattle.reader.specs.declared.FieldsRead.{FieldsRead as FieldsInHand}
+use Rattle.reader.specs.declared.ThreadsRead.{ThreadsRead as ThreadsInHand}
+use Rattle.reader.specs.declared.Fault.{Fault}
+
+-- Where a reader stands: the refusal met (0: none), the start of the last number, the start of the next, the last number.
+pub record Cursor : Type 0 where
+  pub refusal : ℕ
+  pub start : ℕ
+  pub next : ℕ
+  pub value : ℕ
+
+-- The rows read so far, and where the reader then stands.
+pub record RowsRead : Type 0 where
+  pub cursor : Cursor
+  pub rows : List ℕ
+
+-- The fields of a thread read so far, and where the reader then stands.
+pub record FieldsRead : Type 0 where
+  pub cursor : Cursor
+  pub fields : List ℕ
+
+-- The threads read so far, and where the reader then stands.
+pub record ThreadsRead : Type 0 where
+  pub cursor : Cursor
+  pub threads : List Thread
 
 -- A number v was read from start up to next.
 abbrev pub good : ℕ → ℕ → ℕ → Cursor
@@ -140,12 +161,45 @@ reading s =
     after_rows s (version_from s).value (domains_from s).value (count_from s).value
     (rows_from s (domains_from s).value (count_from s) (domains_from s).value)
 
--- Document 01's number and values of a verdict.
-abbrev pub told : Verdict → Told
-told Accepted = answered []
-told (No why place) = record { number = why; values = place ∷ [] }
-told (Intransitive place a b c) = record { number = 7; values = place ∷ a ∷ b ∷ c ∷ [] }
+-- Where the code stands: it goes on only where nothing was refused.
+abbrev pub standing : CursorInHand → Cursor
+standing c = good c.start c.next c.value
+
+-- The code gives up with a fault where the reader stands refused: the same number at the same place, and no value.
+pub record GivesUp (f : Fault) (c : Cursor) : Type 0 where
+  pub met : c ≡ bad (number f.why) f.place
+  pub plain : values f.why ≡ []
+
+-- What the code has in hand after a number is where the reader stands.
+abbrev pub Stands : Result CursorInHand Fault → Cursor → Type 0
+Stands (Ok c) k = standing c ≡ k
+Stands (Err f) k = GivesUp f k
+
+-- What it has in hand after the rows is what was read of them.
+abbrev pub HasRows : Result RowsInHand Fault → RowsRead → Type 0
+HasRows (Ok r) x = record { cursor = standing r.cursor; rows = r.rows } ≡ x
+HasRows (Err f) x = GivesUp f x.cursor
+
+-- So it is after the fields of a thread.
+abbrev pub HasFields : Result FieldsInHand Fault → FieldsRead → Type 0
+HasFields (Ok r) x = record { cursor = standing r.cursor; fields = r.fields } ≡ x
+HasFields (Err f) x = GivesUp f x.cursor
+
+-- So it is after the threads.
+abbrev pub HasThreads : Result ThreadsInHand Fault → ThreadsRead → Type 0
+HasThreads (Ok r) x = record { cursor = standing r.cursor; threads = r.threads } ≡ x
+HasThreads (Err f) x = GivesUp f x.cursor
+
+-- Document 01's number and values of an answer: of a refusal its place, then its own.
+abbrev pub told : Result Table Fault → Told
+told (Ok t) = answered []
+told (Err f) = record { number = number f.why; values = f.place ∷ values f.why }
+
+-- The table of an answer, which is all zero on a refusal.
+abbrev pub table_of : Result Table Fault → Table
+table_of (Ok t) = t
+table_of (Err f) = no_table
 
 -- What an answer of the code gives.
-abbrev pub read_of : Reading → Read
-read_of r = record { told = told r.verdict; table = r.table }
+abbrev pub read_of : Result Table Fault → Read
+read_of r = record { told = told r; table = table_of r }

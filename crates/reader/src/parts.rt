@@ -1,7 +1,7 @@
 // The parts of a table, each read with the cursor: rows, fields, threads, the end.
 ghost use Rattle.std.specs.Prelude.{◌≡◌, ◌≤◌};
 ghost use Rattle.table.specs.Threads.{fields_in};
-ghost use Rattle.reader.specs.Reader.{standing, place_of, rows_of, fields_of, threads_of, row_from, rows_from, free, field_from, fields_from, threads_from, ended, read_of};
+ghost use Rattle.reader.specs.Reader.{standing, Stands, HasRows, HasFields, HasThreads, row_from, rows_from, free, field_from, fields_from, threads_from, ended, read_of};
 
 use super::steps::{judge, next_number, read_ranged};
 use super::{Cursor, Fault, FieldsRead, RowsRead, ThreadsRead};
@@ -10,7 +10,7 @@ use flow::row_passes;
 use table::{FIELDS, Table, Thread, field_range, fields_in, is_taken, make_thread, no_thread};
 
 fn read_row(s: &[u8], domains: u8, i: u8, c: Cursor) -> Result<Cursor, Fault>
-    ensures { place_of result ≡ row_from s.now domains i (standing c) }
+    ensures { Stands result (row_from s.now domains i (standing c)) }
 {
     let n = next_number(s, c)?;
     let ok = row_passes(domains, i, n.value);
@@ -19,7 +19,7 @@ fn read_row(s: &[u8], domains: u8, i: u8, c: Cursor) -> Result<Cursor, Fault>
 
 pub fn read_rows(s: &[u8], domains: u8, c: Cursor) -> Result<RowsRead, Fault>
     requires { domains ≤ 16 }
-    ensures { rows_of result (rows_from s.now domains (standing c) domains) }
+    ensures { HasRows result (rows_from s.now domains (standing c) domains) }
 {
     let mut rows = [0u16; 16];
     let mut k = c;
@@ -52,7 +52,7 @@ fn read_field(
     c: Cursor,
 ) -> Result<Cursor, Fault>
     requires { i ≤ 32 }
-    ensures { place_of result ≡ field_from s.now version domains threads i fields k (standing c) }
+    ensures { Stands result (field_from s.now version domains threads i fields k (standing c)) }
 {
     let range = field_range(version, domains, fields, k);
     let f = read_ranged(s, c, range, Refusal::Field)?;
@@ -69,7 +69,7 @@ fn read_fields(
     c: Cursor,
 ) -> Result<FieldsRead, Fault>
     requires { i ≤ 32 }
-    ensures { fields_of result (fields_from s.now version domains threads i (standing c) (fields_in version)) }
+    ensures { HasFields result (fields_from s.now version domains threads i (standing c) (fields_in version)) }
 {
     let mut fields = [0u16; FIELDS];
     let n = fields_in(version);
@@ -83,7 +83,7 @@ fn read_fields(
 
 fn read_threads(s: &[u8], version: u8, domains: u8, c: Cursor, count: u8) -> Result<ThreadsRead, Fault>
     requires { count ≤ 32 }
-    ensures { threads_of result (threads_from s.now version domains (standing c) count) }
+    ensures { HasThreads result (threads_from s.now version domains (standing c) count) }
 {
     let z = no_thread();
     let mut threads = [z; 32];

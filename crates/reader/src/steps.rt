@@ -1,7 +1,7 @@
 // One number: after a refusal nothing more is read, so the leftmost fault wins.
-ghost use Rattle.std.specs.Prelude.{◌≡◌};
-ghost use Rattle.reader.specs.Reader.{standing, place_of, number_from, judged, ranged};
-ghost use Rattle.basis.specs.Refusals.{number};
+ghost use Rattle.std.specs.Prelude.{◌≡◌, []};
+ghost use Rattle.reader.specs.Reader.{standing, Stands, number_from, judged, ranged};
+ghost use Rattle.basis.specs.Refusals.{number, values};
 
 use super::{Cursor, Fault};
 use basis::Refusal;
@@ -10,7 +10,7 @@ use table::{Range, in_range};
 
 // The next number.
 pub fn next_number(s: &[u8], c: Cursor) -> Result<Cursor, Fault>
-    ensures { place_of result ≡ number_from s.now (standing c) }
+    ensures { Stands result (number_from s.now (standing c)) }
 {
     let start = c.next;
     match read_number(s, start) {
@@ -21,7 +21,8 @@ pub fn next_number(s: &[u8], c: Cursor) -> Result<Cursor, Fault>
 
 // The number just read is refused unless it passes.
 pub fn judge(c: Cursor, ok: bool, why: Refusal) -> Result<Cursor, Fault>
-    ensures { place_of result ≡ judged (standing c) ok (number why) }
+    requires { values why ≡ [] }
+    ensures { Stands result (judged (standing c) ok (number why)) }
 {
     if ok {
         return Ok(c);
@@ -33,7 +34,8 @@ pub fn judge(c: Cursor, ok: bool, why: Refusal) -> Result<Cursor, Fault>
 }
 
 pub fn read_ranged(s: &[u8], c: Cursor, range: Range, why: Refusal) -> Result<Cursor, Fault>
-    ensures { place_of result ≡ ranged s.now (standing c) range (number why) }
+    requires { values why ≡ [] }
+    ensures { Stands result (ranged s.now (standing c) range (number why)) }
 {
     let n = next_number(s, c)?;
     let ok = in_range(range, n.value);

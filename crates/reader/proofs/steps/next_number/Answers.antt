@@ -1,17 +1,16 @@
+use mathlib.Core.Path.{sym, ap}
 use Rattle.basis.specs.Tests.{pick}
-use Rattle.reader.specs.Reader.{number_from}
-use mathlib.Core.Path.{sym, ◌∙◌}
-use borrow.Author.Tests.{eq-eqb, ne_eqb}
+use Rattle.numeral.proofs.RuleLaws.{refused-plain}
+use Rattle.reader.specs.Reader.{number_from, took}
 use Rattle.reader.proofs.steps.next_number.Goals as goal
 
-pub returns-then-c-ne0 : goal.returns-then-c-ne0
+pub returns-in-Ok : goal.returns-in-Ok
 unfolding number_from pick
-returns-then-c-ne0 c = rw (ne_eqb _ _ c.if-c-ne0.true) c.refuse.ensures
+returns-in-Ok c = ap (took c.args.c.next) c.in-Ok.ensures.0
 
-pub returns-in-Value : goal.returns-in-Value
+pub returns-in-Err : goal.returns-in-Err
 unfolding number_from pick
-returns-in-Value c = rw (eq-eqb _ _ c.if-c-ne0.false, sym c.read_number-n.ensures.0 ∙ c.in-Value.is)
-
-pub returns-in-Refused : goal.returns-in-Refused
-unfolding number_from pick
-returns-in-Refused c = rw (eq-eqb _ _ c.if-c-ne0.false, sym c.read_number-n.ensures.0 ∙ c.in-Refused.is) c.refuse-in-Refused.ensures
+returns-in-Err c = record {
+  met = ap (took c.args.c.next) (sym c.in-Err.ensures.0);
+  plain = refused-plain _ _ _ c.in-Err.ensures.0;
+}
