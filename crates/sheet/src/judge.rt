@@ -1,119 +1,104 @@
 // The numbers of a text are judged as the byte form judges them, and what is objected to gets its place in the text.
-ghost use Rattle.std.specs.Prelude.{◌≡◌, take};
-ghost use Rattle.reader.specs.Reader.{read_of};
+ghost use Rattle.std.specs.Prelude.{◌≡◌, ◌≢◌, ℕ, [], take, MatchOption};
+ghost use Rattle.basis.specs.Refusals.{number, values};
+ghost use Rattle.basis.specs.declared.refusal.Refusal.TheVariants.{Intransitive};
+ghost use Rattle.reader.specs.Reader.{read_of, accepted};
 ghost use Rattle.sheet.specs.Sheet.{most_numbers, sheet_reading};
-ghost use Rattle.sheet.specs.Scan.{scanned, numbers_in as count_in, own, ends_wrong as the-end-is-wrong, cut_bytes, passed_by, objected_by, gapped_by};
+ghost use Rattle.sheet.specs.Scan.{fault_read, cut_of, told_cut, scanned, numbers_in as count_in, cut_bytes, passed_by, objected_by, gapped_by};
 
-use super::Cutting;
 use super::scan::scan;
-use reader::{Reading, Verdict, refused_reading};
+use super::{Cutting, MOST, Stop};
+use basis::Refusal;
+use reader::Fault;
+use table::Table;
 use writer::write_numbers;
 
 // How many numbers end in the first n bytes.
 fn numbers_in(bytes: &[u8], n: usize) -> usize
     ensures { result ≡ count_in (take n bytes.now) }
 {
-    let mut k = 0;
-    for i in 0..bytes.len() {
-        if i < n {
-            if bytes[i] < 128 {
-                k += 1;
-            }
-        }
-    }
-    k
-}
-
-// Whether the fault is the end of number k, the last one cut.
-fn ends_wrong(cut: Cutting, k: usize) -> bool
-    ensures { result ≡ the-end-is-wrong cut k }
-{
-    if !cut.ended {
-        return false;
-    }
-    if cut.refusal == 0 {
-        return false;
-    }
-    if cut.count == 0 {
-        return false;
-    }
-    cut.count - 1 == k
+    bytes.iter().take(n).filter(|b| **b < 128).count()
 }
 
 // The text's own fault.
-fn own_fault(cut: Cutting) -> Reading
-    ensures { read_of result ≡ own cut }
+fn own_fault(cut: Cutting) -> Option<Fault>
+    ensures { MatchOption result ((cut_of cut).refusal ≡ 0) (λ f. (number f.why ≡ (cut_of cut).refusal) × (f.place ≡ (cut_of cut).place)) }
 {
-    refused_reading(Verdict::Refused(cut.refusal, cut.place))
+    match cut.stop? {
+        Stop::NoNumber(why) => Some(Fault { why, place: cut.next }),
+        Stop::WrongEnd(fault) => Some(fault),
+    }
 }
 
 // All numbers pass: the text's own fault, text after the last line, or the table.
-#[tactic(auto, unfolding(crate::specs::Scan::passed_by, basis::specs::Tests::pick))]
-fn passed(s: &[u8], cut: Cutting, r: Reading) -> Reading
-    ensures { read_of result ≡ passed_by s.now cut (read_of r) }
+fn passed(s: &[u8], cut: Cutting, t: Table) -> Result<Table, Fault>
+    requires { (cut_of cut).refusal ≢ 7 }
+    ensures { read_of result ≡ passed_by s.now (cut_of cut) (accepted t) }
 {
-    if cut.refusal != 0 {
-        return own_fault(cut);
+    if let Some(fault) = own_fault(cut) {
+        return Err(fault);
     }
     if cut.next < s.len() {
-        return refused_reading(Verdict::Refused(10, cut.next));
+        return Err(Fault {
+            why: Refusal::Extra,
+            place: cut.next,
+        });
     }
-    r
+    Ok(t)
 }
 
 // A number is objected to: it is told with its place in the text. Where numbers are missing, it is the text's own fault.
-#[tactic(auto, unfolding(crate::specs::Scan::objected_by, basis::specs::Tests::pick, crate::specs::Scan::start_of))]
-fn objected(s: &[u8], cut: Cutting, bytes: &[u8], why: u8, place: usize) -> Reading
-    ensures { read_of result ≡ objected_by s.now cut bytes.now why place }
+fn objected(s: &[u8], cut: Cutting, bytes: &[u8], fault: Fault) -> Fault
+    requires plain { values fault.why ≡ [] }
+    requires own { (cut_of cut).refusal ≢ 7 }
+    requires met { number fault.why ≡ 1 → (cut_of cut).refusal ≢ 0 }
+    ensures { fault_read result ≡ objected_by s.now (cut_of cut) bytes.now (number fault.why) fault.place }
 {
-    if why == 1 {
-        return own_fault(cut);
+    match (fault.why, own_fault(cut)) {
+        (Refusal::EndsEarly, Some(own)) => own,
+        _ => Fault {
+            why: fault.why,
+            place: scan(s, numbers_in(bytes, fault.place)).next,
+        },
     }
-    let k = numbers_in(bytes, place);
-    let before = scan(s, k);
-    refused_reading(Verdict::Refused(why, before.next))
 }
 
 // A gap: a wrong end behind its last row goes before it.
-#[tactic(auto, unfolding(crate::specs::Scan::gapped_by, basis::specs::Tests::pick, crate::specs::Scan::start_of))]
-fn gapped(s: &[u8], cut: Cutting, bytes: &[u8], place: usize, a: u8, b: u8, c: u8) -> Reading
-    ensures { read_of result ≡ gapped_by s.now cut bytes.now place (record { a = a; b = b; c = c }) }
+fn gapped(s: &[u8], cut: Cutting, bytes: &[u8], place: usize, why: Refusal) -> Fault
+    requires { (cut_of cut).refusal ≢ 7 }
+    ensures { (a b c : ℕ) → why ≡ Intransitive a b c → fault_read result ≡ gapped_by s.now (cut_of cut) bytes.now place (record { a = a; b = b; c = c }) }
 {
     let k = numbers_in(bytes, place);
-    if ends_wrong(cut, k) {
-        return own_fault(cut);
+    match cut.stop {
+        Some(Stop::WrongEnd(own)) if cut.count == k + 1 => own,
+        _ => Fault {
+            why,
+            place: scan(s, k).next,
+        },
     }
-    let before = scan(s, k);
-    refused_reading(Verdict::Intransitive {
-        place: before.next,
-        a,
-        b,
-        c,
-    })
 }
 
 // What the byte form says of the bytes of the cut numbers, joined with the text's own fault.
-fn judge_bytes(s: &[u8], cut: Cutting, bytes: &[u8]) -> Reading
-    requires { (cut ≡ scanned s.now most_numbers) × (bytes.now ≡ cut_bytes cut) }
+fn judge_bytes(s: &[u8], cut: Cutting, bytes: &[u8]) -> Result<Table, Fault>
+    requires { (cut_of cut ≡ told_cut (scanned s.now most_numbers)) × (bytes.now ≡ cut_bytes (cut_of cut)) }
     ensures { read_of result ≡ sheet_reading s.now }
 {
-    let r = codec::read(bytes);
-    let verdict = r.verdict;
-    match verdict {
-        Verdict::Accepted => passed(s, cut, r),
-        Verdict::Refused(why, place) => objected(s, cut, bytes, why, place),
-        Verdict::Intransitive { place, a, b, c } => gapped(s, cut, bytes, place, a, b, c),
+    match codec::read(bytes) {
+        Ok(t) => passed(s, cut, t),
+        Err(fault) => match fault.why {
+            Refusal::Intransitive { a: _, b: _, c: _ } => Err(gapped(s, cut, bytes, fault.place, fault.why)),
+            _ => Err(objected(s, cut, bytes, fault)),
+        },
     }
 }
 
 // The bytes of the numbers that were cut, three at most for each, are judged.
-pub fn judge(s: &[u8], cut: Cutting) -> Reading
-    requires { cut ≡ scanned s.now most_numbers }
+pub fn judge(s: &[u8], cut: Cutting) -> Result<Table, Fault>
+    requires { cut_of cut ≡ told_cut (scanned s.now most_numbers) }
     ensures { read_of result ≡ sheet_reading s.now }
 {
-    let mut bytes = [0u8; 825];
+    let mut bytes = [0u8; 3 * MOST];
     let numbers = cut.numbers;
-    let n = cut.count;
-    let end = write_numbers(&mut bytes, 0, &numbers[..n]);
+    let end = write_numbers(&mut bytes, 0, &numbers[..cut.count]);
     judge_bytes(s, cut, &bytes[..end])
 }
