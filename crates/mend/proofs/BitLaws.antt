@@ -7,6 +7,7 @@ use native.Mathlib.Omega.{arith}
 use native.Mathlib.Nat.{div-one, pow-suc}
 use lib.Dec.{eqb}
 use lib.Pow.{pow_mono}
+use mir.Val.{bool_byte}
 use Rattle.basis.specs.Tests.{pick}
 use Rattle.flow.proofs.FlowLaws.{half_first}
 use Rattle.mend.specs.Grid.{cell}
@@ -17,6 +18,20 @@ pub digit_small : (b : Bool) → pick b 1 0 < 2
 unfolding pick
 digit_small true = omega arith
 digit_small false = omega arith
+
+-- `u16::from` of a bool gives it.
+pub digit-byte : (b : Bool) → bool_byte b ≡ pick b 1 0
+unfolding pick
+digit-byte true = refl
+digit-byte false = refl
+
+-- One column more, the one before b.
+pub row_from-next : (g : List Bool) (a b : ℕ) → 0 < b → b ≤ 16 → bool_byte (cell g a (b - 1)) + 2 * row_from g a (16 - b) ≡ row_from g a (16 - (b - 1))
+unfolding row_from
+row_from-next g a b lo hi =
+    let e : 16 - (b - 1) ≡ suc (16 - b) = omega arith in
+    let f : 15 - (16 - b) ≡ b - 1 = omega arith in
+    rw (e, f, digit-byte (cell g a (b - 1)))
 
 -- The last n columns make a number of n bits.
 pub row_from_small : (g : List Bool) (a n : ℕ) → row_from g a n < 2 ^ n

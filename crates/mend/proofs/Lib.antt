@@ -1,3 +1,4 @@
+pub mod FromFnLaws
 pub mod BitLaws
 pub mod OnesLaws
 pub mod PairLaws

@@ -12,18 +12,18 @@ use lib.Seq.{take_at, drop_at, length-take-le, get_or-take}
 use Rattle.basis.specs.Tests.{pick}
 use Rattle.basis.specs.Search.{Sought, nothing, found}
 use Rattle.basis.specs.Told.{Told, answered, refused}
-use Rattle.basis.proofs.BackLaws.{undone}
 use Rattle.basis.proofs.ListLaws.{unused_by}
 use Rattle.basis.proofs.SearchLaws.{first-nothing, first_found, first-all, first_hit, FoundAt}
 use Rattle.basis.proofs.TestLaws.{by_test, refuted}
 use Rattle.flow.specs.Flow.{flows, row_ok}
 use Rattle.flow.specs.Gap.{WithoutGap}
 use Rattle.mend.specs.Rows.{mended, added}
-use Rattle.mend.specs.Mend.{Outcome, full, count_ok, bad_at, bad_row, mending, told, outcome}
+use Rattle.mend.specs.Mend.{Outcome, full, count_ok, bad_at, bad_row, mending, outcome}
 use Rattle.mend.specs.Plain.{Holds, Passing, Policy, Mends, FirstFailing, InRange, missing, Tells, no_domains, many_domains, row_fails, no_room, mends}
 use Rattle.mend.specs.declared.Mended.{Mended}
-use Rattle.mend.specs.declared.Mending.{Mending}
-use Rattle.mend.specs.declared.Mending.TheVariants.{Added, BadCount, BadRow, NoRoom}
+use Rattle.mend.specs.declared.Unmendable.{Unmendable}
+use Rattle.mend.specs.declared.Unmendable.TheVariants.{BadCount, BadRow, NoRoom}
+use Rattle.std.specs.Prelude.{Result, Ok, Err}
 use Rattle.mend.proofs.RefusalLaws.{bad-none, bad_hit}
 use Rattle.mend.proofs.MendLaws.{mended_sixteen, mended_smallest, mended_policy, mended-whole}
 use Rattle.mend.proofs.CountLaws.{added-count}
@@ -220,21 +220,24 @@ one : List ℕ → ℕ
 one [] = 0
 one (v ∷ vs) = v
 
-back : Told → Mending
+back : Outcome → Result Mended Unmendable
 unfolding one pick
-back t = pick (eqb t.number 5) BadCount (pick (eqb t.number 6) (BadRow (one t.values)) (pick (eqb t.number 16) NoRoom (Added (one t.values))))
+back o = pick (eqb o.told.number 5) (Err BadCount)
+    (pick (eqb o.told.number 6) (Err (BadRow (one o.told.values)))
+    (pick (eqb o.told.number 16) (Err NoRoom) (Ok (record { added = one o.told.values; rows = o.rows }))))
 
-back_told : (a : Mending) → back (told a) ≡ a
+back_outcome : (r : Result Mended Unmendable) (p : List ℕ) → back (outcome r p) ≡ r
 unfolding back
-back_told (Added n) = refl
-back_told BadCount = refl
-back_told (BadRow i) = refl
-back_told NoRoom = refl
+back_outcome (Ok m) p = refl
+back_outcome (Err BadCount) p = refl
+back_outcome (Err (BadRow i)) p = refl
+back_outcome (Err NoRoom) p = refl
 
-pub mend_unique : (given pairs : List ℕ) (r s : Mended) (p q : List ℕ) → outcome r p ≡ mending given pairs → outcome s q ≡ mending given pairs → (r ≡ s) × (p ≡ q)
+outcome_pairs : (r : Result Mended Unmendable) (p : List ℕ) → (outcome r p).pairs ≡ p
+outcome_pairs (Ok m) p = refl
+outcome_pairs (Err why) p = refl
+
+pub mend_unique : (given pairs : List ℕ) (r s : Result Mended Unmendable) (p q : List ℕ) → outcome r p ≡ mending given pairs → outcome s q ≡ mending given pairs → (r ≡ s) × (p ≡ q)
 mend_unique given pairs r s p q e f =
     let o : outcome r p ≡ outcome s q = e ∙ sym f in
-    let a : r.answer ≡ s.answer = undone told back back_told r.answer s.answer (ap (λ (o : Outcome). o.told) o) in
-    let b : r.rows ≡ s.rows = ap (λ (o : Outcome). o.rows) o in
-    let w : ◌≡◌ {A = Mended} (record { answer = r.answer; rows = r.rows }) (record { answer = s.answer; rows = s.rows }) = rw (a, b) in
-    (w, ap (λ (o : Outcome). o.pairs) o)
+    (sym (back_outcome r p) ∙ ap back o ∙ back_outcome s q, sym (outcome_pairs r p) ∙ ap (λ (o : Outcome). o.pairs) o ∙ outcome_pairs s q)

@@ -2,6 +2,7 @@
 use Prim.Native.Nat.{ℕ, ◌-◌, ◌≤◌, ◌<◌}
 use mathlib.Core.Path.{◌≡◌, sym, ◌∙◌}
 use mathlib.Core.List.{List, [], ◌∷◌, ◌++◌}
+use Rattle.std.specs.Prelude.{Ok}
 use mathlib.Core.Bool.{true, false}
 use native.Mathlib.Omega.{arith}
 use borrow.Author.Tests.{le-leb, lt-leb, leb-true}
@@ -15,11 +16,8 @@ use Rattle.basis.proofs.SearchLaws.{first-nothing}
 use Rattle.basis.proofs.TestLaws.{by_test, fails, and_both, and-of}
 use Rattle.flow.specs.Flow.{row_ok}
 use Rattle.mend.specs.Rows.{mended, added, count}
-use Rattle.mend.specs.Mend.{full, count_ok, bad_at, bad_row, refusing, answering, judging, mending, told, outcome}
+use Rattle.mend.specs.Mend.{full, count_ok, bad_at, bad_row, refusing, answering, judging, mending, outcome}
 use Rattle.mend.specs.Plain.{Policy}
-use Rattle.mend.specs.declared.Mended.{Mended}
-use Rattle.mend.specs.declared.Mending.{Mending}
-use Rattle.mend.specs.declared.Mending.TheVariants.{Added}
 use Rattle.mend.proofs.RefusalLaws.{bad_hit}
 use Rattle.mend.proofs.MendLaws.{mended_keeps}
 use Rattle.mend.proofs.CountLaws.{Wider, added-count}
@@ -96,15 +94,11 @@ pub told-done : (given pairs : List ℕ) → count_ok (length given) ≡ true �
 unfolding mending judging answering pick
 told-done given pairs e f h = rw (e, f, le-leb _ _ h)
 
--- A refused result of the code.
-pub refused_as : (r : Mended) (a : Mending) (pairs : List ℕ) → (r.answer ≡ a) × (r.rows ≡ replicate 16 0) → outcome r pairs ≡ refusing (told a) pairs
-refused_as r a pairs e = rw (e.0, e.1)
-
 -- An answered one.
 pub done_as : (given pairs rows ms exit : List ℕ) (n : ℕ) → rows ≡ full given → ms ≡ mended (length given) (full given) → n ≡ count rows ms 16
     → exit ≡ added rows ms 256 ++ drop (length (added rows ms 256)) pairs
     → count_ok (length given) ≡ true → bad_row (length given) (full given) ≡ nothing → n ≤ length pairs
-    → outcome (record { answer = Added n; rows = ms }) exit ≡ mending given pairs
+    → outcome (Ok (record { added = n; rows = ms })) exit ≡ mending given pairs
 done_as given pairs rows ms exit n er em en ee c b h =
     let f : List ℕ = full given in
     let m : List ℕ = mended (length given) (full given) in

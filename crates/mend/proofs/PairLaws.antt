@@ -7,7 +7,7 @@ use native.Mathlib.Decide.{le_ind}
 use native.Mathlib.Nat.{le_refl, le_trans}
 use native.Mathlib.Numerals.{add-one}
 use native.Mathlib.Omega.{arith}
-use lib.ListN.{length, set, drop, length-append, length-drop}
+use lib.ListN.{length, set, get_or, drop, length-append, length-drop}
 use lib.Seq.{drop-cons, set_at, append_snoc}
 use Rattle.basis.specs.Tests.{pick}
 use Rattle.basis.proofs.TestLaws.{by_test}
@@ -43,12 +43,14 @@ module _ (rows ms : List ℕ) where
   pub same_long : (c n : ℕ) (l : List ℕ) → c ≤ 256 → length (added rows ms 256) ≤ length l → n ≡ length (added rows ms c) → length (added rows ms c ++ drop n l) ≡ length l
   same_long c n l h k e = length-append (added rows ms c) (drop n l) ∙ rw (length-drop n l) (omega (arith, length_grows c 256 h))
 
-  -- What stands in the list once the next is put there, and how many they are.
-  pub put_next : (c n : ℕ) (l p : List ℕ) → n ≡ length (added rows ms c) → p ≡ added rows ms c ++ drop n l → (is_added rows ms c ≡ true → n < length l)
-      → pick (is_added rows ms c) (set p n c) p ≡ added rows ms (c + 1) ++ drop (pick (is_added rows ms c) (n + 1) n) l
-  unfolding pick
-  put_next c n l p e q h = by_test (is_added rows ms c) (λ t. rw (t, q, add-one, add-one, added_hit c t, drop-cons l n 0 (h t), set_at (added rows ms c) _ (drop (suc n) l) c n (sym e)) (sym (append_snoc (added rows ms c) c (drop (suc n) l)))) (λ t. rw (t, q, add-one, added_none c t))
+  -- What stands in the list once the next is put there or passed over, and how many they are.
+  pub put_next : (c n : ℕ) (l p : List ℕ) → n ≡ length (added rows ms c) → p ≡ added rows ms c ++ drop n l → n < length l → is_added rows ms c ≡ true
+      → (n + 1 ≡ length (added rows ms (c + 1))) × (set p n c ≡ added rows ms (c + 1) ++ drop (n + 1) l)
+  put_next c n l p e q h t = rw (add-one c) (
+    rw e (sym (length_hit c t)),
+    rw (q, add-one n, added_hit c t, drop-cons l n 0 h, set_at (added rows ms c) (get_or l n 0) (drop (suc n) l) c n (sym e)) (sym (append_snoc (added rows ms c) c (drop (suc n) l))),
+  )
 
-  pub number-next : (c n : ℕ) → n ≡ length (added rows ms c) → pick (is_added rows ms c) (n + 1) n ≡ length (added rows ms (c + 1))
-  unfolding pick
-  number-next c n e = by_test (is_added rows ms c) (λ t. rw (t, add-one c, e) (sym (length_hit c t))) (λ t. rw (t, add-one, e) (sym (length_none c t)))
+  pub pass_next : (c n : ℕ) (l p : List ℕ) → n ≡ length (added rows ms c) → p ≡ added rows ms c ++ drop n l → is_added rows ms c ≡ false
+      → (n ≡ length (added rows ms (c + 1))) × (p ≡ added rows ms (c + 1) ++ drop n l)
+  pass_next c n l p e q t = rw (add-one c, added_none c t) (e, q)

@@ -1,72 +1,39 @@
 // A grid of 256 cells, filled from the rows and closed under transitivity: cell 16 * a + b says whether a may flow to b.
 ghost use Rattle.std.specs.Prelude.{◌≡◌, ◌≤◌, ◌<◌};
-ghost use Rattle.basis.specs.Tests.{pick};
-ghost use Rattle.mend.specs.Grid.{filled, by_way, widened, passed, closed};
+ghost use Rattle.mend.specs.Grid.{filled, by_way, closed};
 ghost use Rattle.mend.specs.Rows.{row_from, rows_of, mended as the-mended};
 
 use flow::may_flow;
+use std::array;
 
 fn fill(rows: [u16; 16]) -> [bool; 256]
     ensures { result ≡ filled rows }
 {
-    let mut grid = [false; 256];
-    for c in 0..256usize {
-        grid[c] = may_flow(rows, (c / 16) as u8, (c % 16) as u8);
-    }
-    grid
+    array::from_fn(|c| may_flow(rows, (c / 16) as u8, (c % 16) as u8))
 }
 
 // Whether a may flow to b, or to k and k to b.
+#[tactic(auto, unfolding(crate::specs::Grid::by_way))]
 fn by_way(grid: &[bool; 256], k: usize, a: usize, b: usize) -> bool
     requires { (k < 16) × (a < 16) × (b < 16) }
     ensures { result ≡ by_way grid.now k a b }
 {
-    if grid[16 * a + b] {
-        return true;
-    }
-    if grid[16 * a + k] {
-        return grid[16 * k + b];
-    }
-    false
+    grid[16 * a + b] || grid[16 * a + k] && grid[16 * k + b]
 }
 
-// From a to each target by way of k.
-fn widen(grid: &mut [bool; 256], domains: usize, k: usize, a: usize)
-    requires { (domains ≤ 16) × (k < 16) × (a < 16) }
-    ensures { grid.new ≡ widened k a domains grid.old }
-{
-    for b in 0..domains {
-        grid[16 * a + b] = by_way(grid, k, a, b);
-    }
-}
-
-// From each source.
-fn pass(grid: &mut [bool; 256], domains: usize, k: usize)
-    requires { (domains ≤ 16) × (k < 16) }
-    ensures { grid.new ≡ passed domains k domains grid.old }
-{
-    for a in 0..domains {
-        widen(grid, domains, k, a);
-    }
-}
-
-// By way of each domain.
+// By way of each domain k, from each source a, to each target b.
+#[tactic(auto, unfolding(crate::specs::Grid::joined, crate::specs::Grid::widened, crate::specs::Grid::passed, crate::specs::Grid::closed))]
 fn close(grid: &mut [bool; 256], domains: usize)
     requires { domains ≤ 16 }
     ensures { grid.new ≡ closed domains domains grid.old }
 {
     for k in 0..domains {
-        pass(grid, domains, k);
+        for a in 0..domains {
+            for b in 0..domains {
+                grid[16 * a + b] = by_way(grid, k, a, b);
+            }
+        }
     }
-}
-
-fn digit(b: bool) -> u16
-    ensures { result ≡ pick b 1 0 }
-{
-    if b {
-        return 1;
-    }
-    0
 }
 
 fn row_of(grid: &[bool; 256], a: usize) -> u16
@@ -74,8 +41,8 @@ fn row_of(grid: &[bool; 256], a: usize) -> u16
     ensures { result ≡ row_from grid.now a 16 }
 {
     let mut v = 0;
-    for n in 0..16usize {
-        v = digit(grid[16 * a + (15 - n)]) + 2 * v;
+    for b in (0..16).rev() {
+        v = u16::from(grid[16 * a + b]) + 2 * v;
     }
     v
 }
@@ -83,13 +50,10 @@ fn row_of(grid: &[bool; 256], a: usize) -> u16
 fn rows_of(grid: &[bool; 256]) -> [u16; 16]
     ensures { result ≡ rows_of grid.now }
 {
-    let mut rows = [0; 16];
-    for a in 0..16usize {
-        rows[a] = row_of(grid, a);
-    }
-    rows
+    array::from_fn(|a| row_of(grid, a))
 }
 
+#[tactic(auto, unfolding(crate::specs::Rows::mended))]
 pub fn mended(domains: usize, rows: [u16; 16]) -> [u16; 16]
     requires { domains ≤ 16 }
     ensures { result ≡ the-mended domains rows }

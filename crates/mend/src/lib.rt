@@ -33,9 +33,7 @@ fn copied(given: &[u16]) -> [u16; 16]
     ensures { result ≡ full given.now }
 {
     let mut rows = [0; 16];
-    for i in 0..given.len() {
-        rows[i] = given[i];
-    }
+    rows[..given.len()].copy_from_slice(given);
     rows
 }
 
@@ -44,12 +42,7 @@ fn first_bad(domains: u8, rows: [u16; 16]) -> Option<u8>
     requires { domains ≤ 16 }
     ensures { sought result ≡ bad_row domains rows }
 {
-    for i in 0..domains {
-        if !row_passes(domains, i, rows[i as usize]) {
-            return Some(i);
-        }
-    }
-    None
+    (0..domains).find(|i| !row_passes(domains, *i, rows[*i as usize]))
 }
 
 // The rows given, one a domain, mended; each pair that was added stands in the list, as 16 times the source plus the target.
@@ -57,10 +50,7 @@ pub fn mend(given: &[u16], pairs: &mut [u8]) -> Result<Mended, Unmendable>
     ensures { outcome result pairs.new ≡ mending given.now pairs.old }
 {
     let n = given.len();
-    if n == 0 {
-        return Err(Unmendable::BadCount);
-    }
-    if 16 < n {
+    if n == 0 || 16 < n {
         return Err(Unmendable::BadCount);
     }
     let rows = copied(given);

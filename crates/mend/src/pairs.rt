@@ -18,34 +18,17 @@ pub fn count_added(rows: [u16; 16], mended: [u16; 16]) -> usize
     ensures { result ≡ count rows mended 16 }
 {
     let mut n = 0;
-    for i in 0..16usize {
-        n += more_ones(rows[i], mended[i]);
+    for (row, more) in rows.iter().zip(&mended) {
+        n += more_ones(*row, *more);
     }
     n
 }
 
-fn is_added(rows: [u16; 16], mended: [u16; 16], c: usize) -> bool
-    requires { c < 256 }
+#[tactic(auto, unfolding(crate::specs::Rows::is_added))]
+fn is_added(rows: [u16; 16], mended: [u16; 16], c: u8) -> bool
     ensures { result ≡ is_added rows mended c }
 {
-    let a = (c / 16) as u8;
-    let b = (c % 16) as u8;
-    if may_flow(mended, a, b) {
-        return !may_flow(rows, a, b);
-    }
-    false
-}
-
-// Pair c in place n of the list, where it is one of them; and the next place.
-fn put_if(pairs: &mut [u8], n: usize, c: usize, one: bool) -> usize
-    requires { (c < 256) × (one ≡ true → n < length pairs.old) }
-    ensures { (result ≡ pick one (n + 1) n) × (pairs.new ≡ pick one (set pairs.old n c) pairs.old) }
-{
-    if one {
-        pairs[n] = c as u8;
-        return n + 1;
-    }
-    n
+    may_flow(mended, c / 16, c % 16) && !may_flow(rows, c / 16, c % 16)
 }
 
 // In the order of the source, and then of the target.
@@ -54,7 +37,10 @@ pub fn list_added(rows: [u16; 16], mended: [u16; 16], pairs: &mut [u8])
     ensures { pairs.new ≡ added rows mended 256 ++ drop (length (added rows mended 256)) pairs.old }
 {
     let mut n = 0;
-    for c in 0..256usize {
-        n = put_if(pairs, n, c, is_added(rows, mended, c));
+    for c in 0..=255u8 {
+        if is_added(rows, mended, c) {
+            pairs[n] = c;
+            n += 1;
+        }
     }
 }

@@ -1,27 +1,28 @@
 -- Each refusal is that of `mending`, and so is the answer: the laws of OutcomeLaws, at each place.
 use mathlib.Core.Path.{◌≡◌, sym, ◌∙◌, ap}
 use mathlib.Core.Bool.{true}
+use mathlib.Core.Logic.{⊎_elim}
 use native.Mathlib.Omega.{arith}
 use lib.ListN.{length}
 use Prim.Native.Nat.{◌≤◌}
 use Rattle.basis.specs.Search.{nothing}
 use Rattle.mend.specs.Rows.{mended, added, count}
 use Rattle.mend.specs.Mend.{full, count_ok, bad_row, sought}
-use Rattle.mend.proofs.OutcomeLaws.{count_in, count-zero, count_over, mended_wider, told-count, told_row, told-short, refused_as, done_as}
+use Rattle.mend.proofs.OutcomeLaws.{count_in, count-zero, count_over, mended_wider, told-count, told_row, told-short, done_as}
 use Rattle.mend.proofs.CountLaws.{Wider, added-count, wider_counted}
 use Rattle.mend.proofs.mend.Goals as goal
-use Rattle.mend.proofs.mend.Goals.{After-count_added-count, After-first_bad-fault, After-mended-ms, Else-n-gt16, Else-pairs-count, In_default}
+use Rattle.mend.proofs.mend.Goals.{After-count_added-count, After-first_bad, After-mended-ms, Else-n-gt16, Else-pairs-count, In_default}
 
 -- The domains, and the rows that passed, at each place.
 at-start : (c : Else-n-gt16) → count_ok (length c.args.given.now) ≡ true
 at-start c = count_in _ (omega arith) (omega arith)
 
 -- What the search for a row that does not pass answers of the rows given.
-searched : (c : After-first_bad-fault) → bad_row (length c.args.given.now) (full c.args.given.now) ≡ sought c.first_bad-fault.result
-searched c = sym (ap (bad_row _) c.copied-rows.ensures) ∙ sym c.first_bad-fault.ensures
+searched : (c : After-first_bad) → bad_row (length c.args.given.now) (full c.args.given.now) ≡ sought c.first_bad.result
+searched c = sym (ap (bad_row _) c.copied-rows.ensures) ∙ sym c.first_bad.ensures
 
 none-bad : (c : In_default) → bad_row (length c.args.given.now) (full c.args.given.now) ≡ nothing
-none-bad c = (sym (ap (bad_row _) c.copied-rows.ensures) ∙ sym c.first_bad-fault.ensures) ∙ ap sought c.in_default.is
+none-bad c = (sym (ap (bad_row _) c.copied-rows.ensures) ∙ sym c.first_bad.ensures) ∙ ap sought c.in_default.is
 
 -- The rows mended, and how many pairs they have more.
 rows-mended : (c : After-mended-ms) →
@@ -40,13 +41,10 @@ all_room c =
     omega (arith, added-count c.copied-rows.result c.mended-ms.result w, c.count_added-count.ensures, c.if-pairs-count.false)
 
 pub returns-then-n-eq0 : goal.returns-then-n-eq0
-returns-then-n-eq0 c = refused_as _ _ _ c.refused.ensures ∙ told-count _ _ (count-zero _ c.if-n-eq0.true)
+returns-then-n-eq0 c = told-count _ _ (⊎_elim (λ z. count-zero _ z) (λ p. count_over _ p.1) c.then-n-eq0.either)
 
-pub returns-then-n-gt16 : goal.returns-then-n-gt16
-returns-then-n-gt16 c = refused_as _ _ _ c.refused-then-n-gt16.ensures ∙ told-count _ _ (count_over _ c.if-n-gt16.true)
-
-pub returns-in-Row : goal.returns-in-Row
-returns-in-Row c = refused_as _ _ _ c.refused-in-Row.ensures ∙ told_row _ _ _ (at-start (goal.at.returns-in-Row c).Else-n-gt16) (searched (goal.at.returns-in-Row c).After-first_bad-fault ∙ ap sought c.in-Row.is)
+pub returns-in-Some : goal.returns-in-Some
+returns-in-Some c = told_row _ _ _ (at-start (goal.at.returns-in-Some c).Else-n-gt16) (searched (goal.at.returns-in-Some c).After-first_bad ∙ ap sought c.in-Some.is)
 
 pub count_added-count-requires : goal.count_added-count-requires
 count_added-count-requires c =
@@ -54,7 +52,7 @@ count_added-count-requires c =
 
 pub returns-then-pairs-count : goal.returns-then-pairs-count
 returns-then-pairs-count c =
-    refused_as _ _ _ c.refused-then-pairs-count.ensures ∙ told-short _ _ (at-start (goal.at.returns-then-pairs-count c).Else-n-gt16) (none-bad (goal.at.returns-then-pairs-count c).In_default) (omega (arith, counted (goal.at.returns-then-pairs-count c).After-count_added-count, c.if-pairs-count.true))
+    told-short _ _ (at-start (goal.at.returns-then-pairs-count c).Else-n-gt16) (none-bad (goal.at.returns-then-pairs-count c).In_default) (omega (arith, counted (goal.at.returns-then-pairs-count c).After-count_added-count, c.if-pairs-count.true))
 
 pub list_added-requires : goal.list_added-requires
 list_added-requires c = all_room (goal.at.list_added-requires c).Else-pairs-count

@@ -1,29 +1,21 @@
--- The last n columns are read, the highest first; n bits fit.
-use Rattle.mend.proofs.BitLaws.{row_from-fits, digit_small}
-use native.Mathlib.Nat.{le_antisymm}
+-- n bits fit.
+use Rattle.std.proofs.Common.{◌≡◌, ◌-◌, ◌+◌, ◌*◌, false, get_or, refl, arith}
 use Rattle.mend.specs.Rows.{row_from}
-use mathlib.Core.Bool.{false}
-use native.Mathlib.Numerals.{add-one}
-use native.Mathlib.Omega.{arith}
-use mathlib.Core.Path.{◌≡◌}
-use Prim.Native.Nat.{◌+◌, ◌*◌, ◌-◌}
-use lib.ListN.{get_or}
-use borrow.Author.Rules.{rules}
+use Rattle.mend.proofs.BitLaws.{row_from-fits, digit_small, digit-byte, row_from-next}
 use Rattle.mend.proofs.grid.row_of.Goals as goal
 
-pub loop-n-init : goal.loop-n-init
+pub loop-b-init : goal.loop-b-init
 unfolding row_from
-loop-n-init c = (search rules, search rules)
+loop-b-init c = refl
 
 pub overflow_mul-v : goal.overflow_mul-v
-overflow_mul-v c = omega (arith, row_from-fits c.args.grid.now c.args.a c.loop-n.n (search rules))
+overflow_mul-v c = omega (arith, row_from-fits c.args.grid.now c.args.a (16 - c.loop-b.b) (omega arith), c.loop-b.invariant)
 
 pub overflow_add-v : goal.overflow_add-v
-overflow_add-v c = omega (arith, row_from-fits c.args.grid.now c.args.a c.loop-n.n (search rules), c.digit.ensures, digit_small (get_or c.args.grid.now (16 * c.args.a + (15 - c.loop-n.n)) false))
+overflow_add-v c = omega (arith, row_from-fits c.args.grid.now c.args.a (16 - c.loop-b.b) (omega arith), c.loop-b.invariant, c.from.ensures, digit-byte (get_or c.args.grid.now (16 * c.args.a + (c.loop-b.b - 1)) false), digit_small (get_or c.args.grid.now (16 * c.args.a + (c.loop-b.b - 1)) false))
 
-pub loop-n-preserved : goal.loop-n-preserved
-unfolding row_from
-loop-n-preserved c = (search rules, rw (add-one, c.digit.ensures, c.loop-n.invariant.1))
+pub loop-b-preserved : goal.loop-b-preserved
+loop-b-preserved c = rw (c.from.ensures, c.loop-b.invariant) (row_from-next c.args.grid.now c.args.a c.loop-b.b (omega arith) (omega arith))
 
 pub returns : goal.returns
-returns c = let e : c.loop-n.n ≡ 16 = le_antisymm c.loop-n.invariant.0 c.loop-n-test.false in rw e at c.loop-n.invariant.1
+returns c = let e : c.loop-b.b ≡ 0 = omega arith in rw e at c.loop-b.invariant

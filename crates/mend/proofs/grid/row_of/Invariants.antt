@@ -1,8 +1,7 @@
--- The last n columns are read, the highest first; n bits fit.
+-- The columns from b on are read, the highest first.
 use Rattle.mend.specs.Rows.{row_from}
-use mathlib.Core.Path.{◌≡◌}
-use Prim.Native.Nat.{◌≤◌}
+use Rattle.std.proofs.Common.{◌≡◌, ◌-◌}
 use Rattle.mend.proofs.grid.row_of.Given as goal
 
-abbrev pub invariant-loop-n : goal.invariant-loop-n
-invariant-loop-n l = (l.n ≤ 16) × (l.v ≡ row_from l.grid l.a l.n)
+abbrev pub invariant-loop-b : goal.invariant-loop-b
+invariant-loop-b l = l.v ≡ row_from l.grid l.a (16 - l.b)
