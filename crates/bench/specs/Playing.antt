@@ -5,8 +5,19 @@ use Rattle.table.specs.declared.Table.{Table}
 use Rattle.writer.specs.Buffer.{Put}
 use Rattle.bench.specs.Text.{Run, played_all, from}
 use Rattle.state.specs.declared.State.{State}
-use Rattle.bench.specs.declared.play.Played.{Played}
+use Rattle.block.specs.Block.{number_of}
+use Rattle.bench.specs.declared.play.Played.{Played as Answer}
 use Rattle.bench.specs.declared.turn.Turn.{Turn}
+
+-- After some steps: the state, the number of the refusal that ended the run (0: none did) and the place after the lines.
+pub record Played : Type 0 where
+  pub state : State
+  pub why : ℕ
+  pub next : ℕ
+
+-- What an answer of the code says.
+abbrev pub played_of : Answer → Played
+played_of r = record { state = r.state; why = number_of r.why; next = r.next }
 
 -- From p in the buffer b to q in the buffer b' the run r was played: its lines were put behind those of p.
 pub record Plays (b : List ℕ) (p : Played) (b' : List ℕ) (q : Played) (r : Run) : Type 0 where

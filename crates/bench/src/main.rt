@@ -3,7 +3,6 @@
 
 ghost use Rattle.table.specs.Legal.{Legal};
 
-use reader::Verdict;
 use scheduler::fresh;
 use table::Table;
 
@@ -12,7 +11,7 @@ mod play;
 mod turn;
 
 use input::{load, turns_left};
-use output::{complain, complain_alone, say_refused, say_threads};
+use output::{complain, say_refused, say_threads};
 use std::rt::Files;
 use turn::take_turn;
 
@@ -23,8 +22,9 @@ fn run(rt: &(impl Print + Eprint + Input), t: Table)
     let mut steps = [0u8; 128000];
     let mut out = [0u8; 65536];
     let mut from = rt.reader();
-    let start = fresh(t);
-    let mut s = start.state;
+    let Ok(mut s) = fresh(t) else {
+        unreachable!()
+    };
     let mut have = 0;
     let mut turns = turns_left(1000000000000000000, say_threads(rt, &mut out, t.count));
     while 0 < turns {
@@ -37,18 +37,9 @@ fn run(rt: &(impl Print + Eprint + Input), t: Table)
 
 // The verdict on the table's bytes: one line for a refusal, else the run.
 fn judge(rt: &(impl Print + Eprint + Input), bytes: &[u8]) {
-    let r = codec::read(bytes);
-    let t = r.table;
-    let v = r.verdict;
-    match v {
-        Verdict::Accepted => run(rt, t),
-        Verdict::Refused(why, place) => say_refused(rt, why, place as u64),
-        Verdict::Intransitive {
-            place,
-            a: _,
-            b: _,
-            c: _,
-        } => say_refused(rt, 7, place as u64),
+    match codec::read(bytes) {
+        Ok(t) => run(rt, t),
+        Err(fault) => say_refused(rt, fault.why, fault.place as u64),
     }
 }
 
@@ -57,15 +48,11 @@ fn judge(rt: &(impl Print + Eprint + Input), bytes: &[u8]) {
 fn run_table(rt: &(impl Print + Eprint + Input + Files)) {
     let mut bytes = [0u8; 1024];
     let got = load(rt, &mut bytes);
-    if !got.whole {
-        match got.error {
-            Some(error) => complain(rt, "table.bin", error),
-            None => complain_alone(rt, "table.bin"),
-        }
+    if !got.reach.is_whole() {
+        complain(rt, "table.bin", got.reach.error());
         return;
     }
-    let n = got.count;
-    judge(rt, &bytes[..n]);
+    judge(rt, &bytes[..got.count]);
 }
 
 fn main(rt: HostRuntime) {

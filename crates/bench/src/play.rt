@@ -3,54 +3,54 @@ ghost use Rattle.std.specs.Prelude.{◌+◌, ◌≤◌, ◌<◌, ◌≡◌, leng
 ghost use Rattle.table.specs.Legal.{Legal};
 ghost use Rattle.state.specs.State.{Fits};
 ghost use Rattle.bench.specs.Text.{played_all, from};
-ghost use Rattle.bench.specs.Playing.{Plays, Roomy, refusal_behind};
+ghost use Rattle.block.specs.Block.{number_of};
+ghost use Rattle.bench.specs.Playing.{Plays, Roomy, refusal_behind, played_of};
 
+use basis::Refusal;
+use block::clocks_left;
 use report::print_trace;
 use scheduler::State;
 use table::Table;
 
-// After some steps: the state, the number of the refusal that ended the run (0: none) and the place after the lines.
-#[derive(Clone, Copy)]
+// After some steps: the state, what refuses the next, where something does, and the place after the lines.
+#[derive(Clone, Copy, Debug, PartialEq, Eq)]
 pub struct Played {
     pub state: State,
-    pub why: u8,
+    pub why: Option<Refusal>,
     pub next: usize,
 }
 
-// How many of so many steps there are up to the last clock.
-fn cut(clock: u32, steps: usize) -> usize
-    requires { clock ≤ 1000000000 }
-    ensures { (result ≤ steps) × (clock + result ≤ 1000000000) × (result < steps → clock + result ≡ 1000000000) }
-{
-    let left = (1000000000 - clock) as usize;
-    if left < steps { left } else { steps }
-}
-
-fn refusal(n: usize, whole: usize, rest: usize) -> u8
-    ensures { result ≡ refusal_behind n whole rest }
+// What refuses the step behind n steps of so many whole ones, with a rest behind them.
+fn refusal(n: usize, whole: usize, rest: usize) -> Option<Refusal>
+    ensures { number_of result ≡ refusal_behind n whole rest }
 {
     if n < whole {
-        return 14;
+        return Some(Refusal::LastClock);
     }
-    if rest == 0 { 0 } else { 13 }
+    if rest == 0 {
+        return None;
+    }
+    Some(Refusal::StepBytes)
 }
 
 // All steps of these bytes, with their lines from the start of the buffer on: one block up to the last clock, in which each step has an
 // empty mask of events. None refuses it; what stands behind it may be refused.
 pub fn play(t: Table, s: State, bytes: &[u8], out: &mut [u8]) -> Played
     requires { Legal t × Fits t s × Roomy t bytes.now out.old }
-    ensures { (result.next ≤ length out.new) × Fits t result.state × Plays out.old (record { state = s; why = 0; next = 0 }) out.new result (played_all t bytes.now (from s)) }
+    ensures { (result.next ≤ length out.new) × Fits t result.state × Plays out.old (record { state = s; why = 0; next = 0 }) out.new (played_of result) (played_all t bytes.now (from s)) }
 {
     let count = t.count as usize;
     let len = bytes.len();
     let whole = len / count;
-    let n = cut(s.clock, whole);
+    let n = clocks_left(s.clock).min(whole);
     let end = n * count;
     let masks = [0u32; 4000];
     let mut trace = [0u8; 4000];
     let r = block::run(t, s, &masks[..n], &bytes[..end], &mut trace);
     let next = print_trace(out, 0, s.clock, &trace[..n]);
-    let state = r.state;
-    let why = refusal(n, whole, len % count);
-    Played { state, why, next }
+    Played {
+        state: r.state,
+        why: refusal(n, whole, len % count),
+        next,
+    }
 }

@@ -6,13 +6,14 @@ ghost use Rattle.bench.specs.Playing.{Answers, Turned};
 
 use super::output::{complain, say, say_last};
 use super::play::play;
-use input::{Filled, read_on};
+use input::{Filled, Reach, read_on};
 use scheduler::State;
 use std::io::Read;
 use table::Table;
 
-// A run after a turn: its state, how many bytes are there of a step that is not whole, and whether more may come.
-#[derive(Clone, Copy)]
+// A run after a turn: its state, how many bytes are there of a step that is not whole, and whether more may come. All three stand in
+// `Turned`, which says what a turn gives after the last one too.
+#[derive(Clone, Copy, Debug, PartialEq, Eq)]
 pub struct Turn {
     pub state: State,
     pub have: usize,
@@ -24,9 +25,7 @@ fn carry(steps: &mut [u8], from: usize, n: usize)
     requires { from + n ≤ length steps.old }
     ensures { take n steps.new ≡ take n (drop from steps.old) }
 {
-    for i in 0..n {
-        steps[i] = steps[from + i];
-    }
+    steps.copy_within(from..from + n, 0);
 }
 
 // Nothing came: the read was interrupted, the input is at its end, where a rest is a step short of bytes, or it failed.
@@ -40,18 +39,18 @@ fn without_more(
 ) -> bool
     requires { Legal t × Fits t s × (got.count < t.count) × (t.count ≤ length steps.now) × (length out.old ≡ 65536) }
 {
-    if got.open {
-        return true;
+    match got.reach {
+        Reach::Part | Reach::Interrupted(_) => true,
+        Reach::Failed(error) => {
+            complain(rt, "standard input", Some(error));
+            false
+        }
+        Reach::Whole => {
+            let p = play(t, s, &steps[..got.count], out);
+            say_last(rt, out, p.next, p.why, p.state.clock);
+            false
+        }
     }
-    if let Some(error) = got.error {
-        complain(rt, "standard input", error);
-        return false;
-    }
-    let n = got.count;
-    let p = play(t, s, &steps[..n], out);
-    let next = p.state;
-    say_last(rt, out, p.next, p.why, next.clock);
-    false
 }
 
 // Plays the whole steps among the first n bytes and prints their lines; the rest goes to the front.
@@ -70,17 +69,16 @@ fn answer_whole(
     let end = n - have;
     let p = play(t, s, &steps[..end], out);
     let state = p.state;
-    let at = p.next;
     carry(steps, end, have);
-    if p.why != 0 {
-        say_last(rt, out, at, p.why, state.clock);
+    if p.why.is_some() {
+        say_last(rt, out, p.next, p.why, state.clock);
         return Turn {
             state,
             have,
             open: false,
         };
     }
-    let open = say(rt, &out[..at]);
+    let open = say(rt, &out[..p.next]);
     Turn { state, have, open }
 }
 

@@ -1,5 +1,5 @@
 -- A block of steps in one call: the state after them and one byte a step, or the number that refuses them all.
-use Rattle.std.specs.Prelude.{ℕ, ◌+◌, ◌*◌, ◌/◌, ◌%◌, List, ◌++◌, map, Bool, length, get_or, take, drop, eqb, leb, Result}
+use Rattle.std.specs.Prelude.{ℕ, ◌+◌, ◌*◌, ◌/◌, ◌%◌, List, ◌++◌, map, Bool, length, get_or, take, drop, eqb, leb, Option, None, Some, Result}
 use Rattle.basis.specs.Tests.{pick, and, every}
 use Rattle.basis.specs.Search.{listed}
 use Rattle.basis.specs.Turns.{in_turn, after}
@@ -7,13 +7,14 @@ use Rattle.table.specs.Legal.{legal}
 use Rattle.table.specs.declared.Table.{Table}
 use Rattle.state.specs.State.{last_clock, fits}
 use Rattle.state.specs.declared.State.{State}
-use Rattle.frame.specs.Mode.{Mode, mode_ok}
+use Rattle.frame.specs.Mode.{Mode, unframed, framed, mode_ok}
+use Rattle.frame.specs.declared.Frame.{Frame}
 use Rattle.walk.specs.Step.{Input, step}
 use Rattle.walk.specs.declared.Answer.{Answer}
 use Rattle.walk.specs.declared.Answer.TheVariants.{Ran, IdleFor, Idle}
 use Rattle.walk.specs.declared.Walked.{Walked}
 use Rattle.scheduler.specs.Taken.{Taken, answer_of, mask_ok}
-use Rattle.basis.specs.Refusals.{number_or_0, given_or}
+use Rattle.basis.specs.Refusals.{number, number_or_0, given_or}
 use Rattle.basis.specs.declared.refusal.Refusal.{Refusal}
 use Rattle.block.specs.declared.Ended.{Ended}
 
@@ -106,6 +107,16 @@ unfoldable pub recorded : Table → Mode → List ℕ → List ℕ → State →
 recorded t mode masks bytes s out at =
     pick (leb at (length out)) (behind at out (block t mode masks bytes s (drop at out)))
     (refused_block (or_no_room (refusal t mode masks bytes s 0)) s out)
+
+-- The mode of a frame that is there, or is not.
+abbrev pub mode_of : Option Frame → Mode
+mode_of (Some f) = framed f
+mode_of None = unframed
+
+-- The number of a refusal that is there, 0 where none is.
+abbrev pub number_of : Option Refusal → ℕ
+number_of (Some why) = number why
+number_of None = 0
 
 -- What an answer of the code gives, with what the part holds at its end; the place is 0 on a refusal.
 abbrev pub next_of : Result ℕ Refusal → ℕ

@@ -4,17 +4,19 @@ use Rattle.basis.specs.Tests.{pick, and}
 use Rattle.table.specs.Threads.{thread}
 use Rattle.table.specs.declared.Table.{Table}
 use Rattle.table.specs.declared.Thread.{Thread}
+use Rattle.block.specs.declared.thread.Effect.{Effect}
+use Rattle.block.specs.declared.thread.Effect.TheVariants.{Stay, Refill, Empty}
 
--- What a release does to an event thread, n steps after its last one: 1 refills both rests, 2 empties them, 0 changes nothing.
-unfoldable pub event_effect : Thread → Bool → ℕ → ℕ
-event_effect th e n = pick (and e (leb th.period n)) 1 (pick (leb th.deadline n) 2 0)
+-- What a release does to an event thread, n steps after its last one: it refills both rests, empties them, or leaves them as they are.
+unfoldable pub event_effect : Thread → Bool → ℕ → Effect
+event_effect th e n = pick (and e (leb th.period n)) Refill (pick (leb th.deadline n) Empty Stay)
 
 -- The same of a periodic thread at clock c.
-unfoldable pub clock_effect : Thread → ℕ → ℕ
+unfoldable pub clock_effect : Thread → ℕ → Effect
 clock_effect th c =
-    pick (ltb c th.offset) 0
-    (pick (eqb ((c - th.offset) % th.period) 0) 1
-    (pick (leb th.deadline ((c - th.offset) % th.period)) 2 0))
+    pick (ltb c th.offset) Stay
+    (pick (eqb ((c - th.offset) % th.period) 0) Refill
+    (pick (leb th.deadline ((c - th.offset) % th.period)) Empty Stay))
 
 -- Whether a reached thread runs, by its finish mark and its rest of execution before its byte is heard.
 unfoldable pub would_run : Bool → ℕ → ℕ → Bool

@@ -3,12 +3,12 @@
 
 ghost use Rattle.std.specs.Prelude.{◌≡◌};
 ghost use Rattle.frame.specs.Mode.{unframed, framed};
-ghost use Rattle.block.specs.Block.{block, blocked_of};
+ghost use Rattle.block.specs.Block.{mode_of, block, blocked_of};
 
 use basis::Refusal;
-use frame::{Frame, frame_passes};
+use frame::Frame;
 use state::State;
-use table::{Table, legal};
+use table::Table;
 use walk::prepare;
 
 mod judge;
@@ -19,6 +19,7 @@ mod thread;
 mod window;
 
 use judge::judge;
+pub use judge::{clocks_left, mode_passes};
 pub use place::{run_at, run_at_in_frame};
 use play::play;
 use stretch::play_in_frame;
@@ -40,28 +41,41 @@ fn refuse(why: Refusal, s: State) -> Ended
     }
 }
 
-// One step for each mask: 11, 12, 13, 18, 14, 16, or the end state, with one byte a step at the part's front.
-pub fn run(t: Table, s: State, masks: &[u32], bytes: &[u8], part: &mut [u8]) -> Ended
-    ensures { blocked_of result part.new ≡ block t unframed masks.now bytes.now s part.old }
+// One step for each mask, in the frame if there is one: 11, 19, 12, 13, 18, 14, 16, or the end state, with one byte a step at the part's
+// front.
+pub fn run_in_mode(
+    t: Table,
+    frame: Option<Frame>,
+    s: State,
+    masks: &[u32],
+    bytes: &[u8],
+    part: &mut [u8],
+) -> Ended
+    ensures { blocked_of result part.new ≡ block t (mode_of frame) masks.now bytes.now s part.old }
 {
-    if !legal(t) {
-        return refuse(Refusal::NotLegal, s);
-    }
-    if let Err(why) = judge(t, s, masks, bytes, part.len()) {
+    if let Err(why) = judge(t, frame, s, masks, bytes, part.len()) {
         return refuse(why, s);
     }
-    let p = prepare(t);
-    let order = p.order;
-    let marks = p.marks;
+    let all = prepare(t);
     let m = masks.len();
-    let end = play(t, order, marks, s, masks, bytes, 0, m, part);
+    let end = match frame {
+        Some(f) => play_in_frame(t, f, all, s, masks, bytes, part),
+        None => play(t, all.order, all.marks, s, masks, bytes, 0, m, part),
+    };
     Ended {
         outcome: Ok(m),
         state: end,
     }
 }
 
-// The same in a frame: 11, 19, 12, 13, 18, 14, 16, or the end state.
+// The same without a frame: 11, 12, 13, 18, 14, 16, or the end state.
+pub fn run(t: Table, s: State, masks: &[u32], bytes: &[u8], part: &mut [u8]) -> Ended
+    ensures { blocked_of result part.new ≡ block t unframed masks.now bytes.now s part.old }
+{
+    run_in_mode(t, None, s, masks, bytes, part)
+}
+
+// The same in a frame.
 pub fn run_in_frame(
     t: Table,
     f: Frame,
@@ -72,19 +86,5 @@ pub fn run_in_frame(
 ) -> Ended
     ensures { blocked_of result part.new ≡ block t (framed f) masks.now bytes.now s part.old }
 {
-    if !legal(t) {
-        return refuse(Refusal::NotLegal, s);
-    }
-    if !frame_passes(t, f) {
-        return refuse(Refusal::Frame, s);
-    }
-    if let Err(why) = judge(t, s, masks, bytes, part.len()) {
-        return refuse(why, s);
-    }
-    let all = prepare(t);
-    let end = play_in_frame(t, f, all, s, masks, bytes, part);
-    Ended {
-        outcome: Ok(masks.len()),
-        state: end,
-    }
+    run_in_mode(t, Some(f), s, masks, bytes, part)
 }

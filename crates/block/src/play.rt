@@ -9,7 +9,7 @@ ghost use Rattle.walk.specs.Step.{advance};
 ghost use Rattle.block.specs.Block.{inputs, end_of, trace_of};
 
 use super::thread::{
-    clock_effect, event_effect, execution_budget, heard, place, since_after, would_run,
+    Effect, clock_effect, event_effect, execution_budget, heard, place, since_after, would_run,
 };
 use order::Ranks;
 use state::{State, has_event};
@@ -36,90 +36,75 @@ pub fn play(
     let ranked = order.count as usize;
     let mut next = s;
     let mut at = from * count;
-    let mut k: usize = 0;
-    while k < steps {
+    for k in 0..steps {
         let here = from + k;
         let mask = masks[here];
         let end = at + count;
         let now = &bytes[at..end];
         let clock = next.clock;
-        let mut i: usize = 0;
-        while i < count {
+        for i in 0..count {
             let th = t.threads[i];
             if th.kind == 1 {
                 let since = next.threads[i].since;
-                let e = event_effect(th, has_event(mask, i as u8), since);
-                if e == 1 {
-                    next.threads[i].rest = th.budget;
-                    next.threads[i].execution = execution_budget(th);
-                    next.threads[i].finished = false;
-                    next.threads[i].since = since_after(th, 0);
-                    i += 1;
-                } else {
-                    if e == 2 {
+                match event_effect(th, has_event(mask, i as u8), since) {
+                    Effect::Refill => {
+                        next.threads[i].rest = th.budget;
+                        next.threads[i].execution = execution_budget(th);
+                        next.threads[i].finished = false;
+                        next.threads[i].since = since_after(th, 0);
+                    }
+                    Effect::Empty => {
                         next.threads[i].rest = 0;
                         next.threads[i].execution = 0;
                         next.threads[i].since = since_after(th, since);
-                        i += 1;
-                    } else {
-                        next.threads[i].since = since_after(th, since);
-                        i += 1;
                     }
+                    Effect::Stay => next.threads[i].since = since_after(th, since),
                 }
             } else {
-                let e = clock_effect(th, clock);
-                if e == 1 {
-                    next.threads[i].rest = th.budget;
-                    next.threads[i].execution = execution_budget(th);
-                    next.threads[i].finished = false;
-                    next.threads[i].since = 0;
-                    i += 1;
-                } else {
-                    if e == 2 {
+                match clock_effect(th, clock) {
+                    Effect::Refill => {
+                        next.threads[i].rest = th.budget;
+                        next.threads[i].execution = execution_budget(th);
+                        next.threads[i].finished = false;
+                        next.threads[i].since = 0;
+                    }
+                    Effect::Empty => {
                         next.threads[i].rest = 0;
                         next.threads[i].execution = 0;
-                        i += 1;
-                    } else {
-                        i += 1;
                     }
+                    Effect::Stay => {}
                 }
             }
         }
         next.clock = clock + 1;
         let mut answer: u8 = 255;
-        let mut r: usize = 0;
-        while r < ranked {
+        for r in 0..ranked {
             let i = order.at[r];
             let p = place(i);
             let rest = next.threads[p].rest;
             if rest == 0 {
-                r += 1;
-            } else {
-                let b = now[p];
-                let finished = next.threads[p].finished;
-                let execution = next.threads[p].execution;
-                if would_run(finished, execution, b) {
-                    let ran = next.threads[p].ran;
-                    next.threads[p].rest = rest - 1;
-                    next.threads[p].execution = execution - 1;
-                    next.threads[p].ran = ran + 1;
-                    answer = i;
-                    r = ranked;
-                } else {
-                    next.threads[p].rest = rest - 1;
-                    next.threads[p].finished = heard(finished, b);
-                    if marks[p].is_some() {
-                        answer = 32 + i;
-                        r = ranked;
-                    } else {
-                        r += 1;
-                    }
-                }
+                continue;
+            }
+            let b = now[p];
+            let finished = next.threads[p].finished;
+            let execution = next.threads[p].execution;
+            if would_run(finished, execution, b) {
+                let ran = next.threads[p].ran;
+                next.threads[p].rest = rest - 1;
+                next.threads[p].execution = execution - 1;
+                next.threads[p].ran = ran + 1;
+                answer = i;
+                break;
+            }
+            next.threads[p].rest = rest - 1;
+            next.threads[p].finished = heard(finished, b);
+            if marks[p].is_some() {
+                answer = 32 + i;
+                break;
             }
         }
         out[here] = answer;
         at = end;
-        k += 1;
     }
     next
 }

@@ -1,7 +1,6 @@
 // A block in a frame, stretch by stretch: each lies in one window, and its threads are ranked anew.
-ghost use Rattle.std.specs.Prelude.{◌≡◌, ◌+◌, ◌*◌, ◌≤◌, length, ltb};
+ghost use Rattle.std.specs.Prelude.{◌≡◌, ◌+◌, ◌*◌, ◌≤◌, length};
 ghost use Rattle.std.proofs.lemmas.List.Edits.{sets};
-ghost use Rattle.basis.specs.Tests.{pick};
 ghost use Rattle.table.specs.Mark.{marks_of};
 ghost use Rattle.state.specs.State.{last_clock, Fits};
 ghost use Rattle.state.specs.Given.{Usable};
@@ -17,17 +16,6 @@ use frame::{Frame, domain_at};
 use state::State;
 use table::Table;
 use walk::{Prepared, narrow};
-
-// The smaller of a window's steps and a block's.
-fn shorter(left: u32, steps: usize) -> usize
-    ensures { result ≡ pick (ltb left steps) left steps }
-{
-    let l = left as usize;
-    if l < steps {
-        return l;
-    }
-    steps
-}
 
 // One step for each mask.
 pub fn play_in_frame(
@@ -50,11 +38,9 @@ pub fn play_in_frame(
         let clock = next.clock;
         let d = domain_at(f, clock);
         let p = narrow(t, all, d);
-        let order = p.order;
-        let marks = p.marks;
         let left = steps_left(f, clock);
-        let n = shorter(left, m - k);
-        next = play(t, order, marks, next, masks, bytes, k, n, out);
+        let n = (left as usize).min(m - k);
+        next = play(t, p.order, p.marks, next, masks, bytes, k, n, out);
         k += n;
     }
     next

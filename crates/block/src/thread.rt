@@ -16,21 +16,29 @@ fn is_due(th: Thread, event: bool, since: u16) -> bool
     th.period <= since
 }
 
-// What a release does to an event thread: 1 refills both rests, 2 empties them, 0 changes nothing.
-pub fn event_effect(th: Thread, event: bool, since: u16) -> u8
+// What a release does to a thread: it leaves both rests as they are, refills them, or empties them.
+#[derive(Clone, Copy, Debug, PartialEq, Eq)]
+pub enum Effect {
+    Stay,
+    Refill,
+    Empty,
+}
+
+// What a release does to an event thread.
+pub fn event_effect(th: Thread, event: bool, since: u16) -> Effect
     ensures { result ≡ event_effect th event since }
 {
     if is_due(th, event, since) {
-        return 1;
+        return Effect::Refill;
     }
     if th.deadline <= since {
-        return 2;
+        return Effect::Empty;
     }
-    0
+    Effect::Stay
 }
 
 // The same of a periodic thread.
-pub fn clock_effect(th: Thread, clock: u32) -> u8
+pub fn clock_effect(th: Thread, clock: u32) -> Effect
     requires { 0 < th.period }
     ensures { result ≡ clock_effect th clock }
 {
@@ -38,16 +46,16 @@ pub fn clock_effect(th: Thread, clock: u32) -> u8
     let deadline = th.deadline as u32;
     let period = th.period as u32;
     if clock < offset {
-        return 0;
+        return Effect::Stay;
     }
     let phase = (clock - offset) % period;
     if phase == 0 {
-        return 1;
+        return Effect::Refill;
     }
     if deadline <= phase {
-        return 2;
+        return Effect::Empty;
     }
-    0
+    Effect::Stay
 }
 
 // How many steps a released thread may run: W - B.

@@ -1,24 +1,57 @@
 // Reading a file or standard input into a buffer.
 #![tactic(auto)]
 
-ghost use Rattle.std.specs.Prelude.{◌≤◌, ◌<◌, ◌≡◌, length, take};
+ghost use Rattle.std.specs.Prelude.{◌≤◌, ◌<◌, ◌≡◌, length, take, is_some};
+ghost use Rattle.input.specs.Reach.{is_whole, is_open, has_error};
 
 use std::fs;
 use std::io::{Error, ErrorKind, Read};
 use std::rt::Files;
 
-// How many bytes stand at the start of a buffer; whether that is all there is room for or all there are; whether to read on; and
-// why the last read failed, where it did.
+// How far reading has come: to all that there is or that there is room for, to a part, or to a read that was interrupted, took nothing
+// and is to be made again, or that failed.
+#[derive(Clone, Copy)]
+pub enum Reach {
+    Whole,
+    Part,
+    Interrupted(Error),
+    Failed(Error),
+}
+
+impl Reach {
+    // Whether all is there.
+    pub fn is_whole(self) -> bool
+        ensures { result ≡ is_whole self }
+    {
+        matches!(self, Reach::Whole)
+    }
+
+    // Whether to read on.
+    pub fn is_open(self) -> bool
+        ensures { result ≡ is_open self }
+    {
+        matches!(self, Reach::Part | Reach::Interrupted(_))
+    }
+
+    // Why the last read took nothing, where it did not.
+    pub fn error(self) -> Option<Error>
+        ensures { is_some result ≡ has_error self }
+    {
+        match self {
+            Reach::Interrupted(error) | Reach::Failed(error) => Some(error),
+            Reach::Whole | Reach::Part => None,
+        }
+    }
+}
+
+// How many bytes stand at the start of a buffer, and how far reading has come.
 #[derive(Clone, Copy)]
 pub struct Filled {
     pub count: usize,
-    pub whole: bool,
-    pub open: bool,
-    pub error: Option<Error>,
+    pub reach: Reach,
 }
 
-// One read behind the bytes that are there: what has arrived, and where nothing has, it waits. An interrupted one took nothing, and
-// is to be made again.
+// One read behind the bytes that are there: what has arrived, and where nothing has, it waits.
 pub fn read_on<R: Read>(from: &mut R, buf: &mut [u8], at: usize) -> Filled
     requires { at ≤ length buf.old }
     ensures { (result.count ≤ length buf.new) × (at ≤ result.count) × (take at buf.new ≡ take at buf.old) }
@@ -26,26 +59,25 @@ pub fn read_on<R: Read>(from: &mut R, buf: &mut [u8], at: usize) -> Filled
     match from.read(&mut buf[at..]) {
         Ok(0) => Filled {
             count: at,
-            whole: true,
-            open: false,
-            error: None,
+            reach: Reach::Whole,
         },
         Ok(got) => {
-            let next = at + got;
-            let whole = next == buf.len();
-            Filled {
-                count: next,
-                whole,
-                open: !whole,
-                error: None,
-            }
+            let count = at + got;
+            let reach = if count == buf.len() {
+                Reach::Whole
+            } else {
+                Reach::Part
+            };
+            Filled { count, reach }
         }
-        Err(error) => Filled {
-            count: at,
-            whole: false,
-            open: error.kind() == ErrorKind::Interrupted,
-            error: Some(error),
-        },
+        Err(error) => {
+            let reach = if error.kind() == ErrorKind::Interrupted {
+                Reach::Interrupted(error)
+            } else {
+                Reach::Failed(error)
+            };
+            Filled { count: at, reach }
+        }
     }
 }
 
@@ -63,14 +95,13 @@ pub fn fill<R: Read>(from: &mut R, buf: &mut [u8]) -> Filled
 {
     let mut f = Filled {
         count: 0,
-        whole: false,
-        open: true,
-        error: None,
+        reach: Reach::Part,
     };
-    let mut turns = 1000000u64;
-    while 0 < turns {
+    for _ in 0..1000000u64 {
         f = read_on(from, buf, f.count);
-        turns = turns_left(turns, f.open);
+        if !f.reach.is_open() {
+            break;
+        }
     }
     f
 }
@@ -81,11 +112,13 @@ pub fn load(rt: &impl Files, buf: &mut [u8]) -> Filled
 {
     match fs::open(rt, "table.bin") {
         Ok(mut file) => fill(&mut file, buf),
-        Err(error) => Filled {
-            count: 0,
-            whole: error.kind() == ErrorKind::NotFound,
-            open: false,
-            error: Some(error),
-        },
+        Err(error) => {
+            let reach = if error.kind() == ErrorKind::NotFound {
+                Reach::Whole
+            } else {
+                Reach::Failed(error)
+            };
+            Filled { count: 0, reach }
+        }
     }
 }

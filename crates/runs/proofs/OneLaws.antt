@@ -26,7 +26,7 @@ use Rattle.block.proofs.RecordLaws.{block-number}
 use Rattle.block.proofs.CallLaws.{block-calls, block-state, block-trace}
 use Rattle.runs.specs.Playing.{whole_steps, Run, then_run, one_by_one, run_of, played}
 use Rattle.runs.specs.Stopping.{Plays}
-use Rattle.runs.specs.declared.Played.{Played}
+use Rattle.runs.specs.Playing.{Played}
 use Rattle.runs.proofs.PlayLaws.{masks_inside, bytes_inside}
 
 module _ (t : Table) (mode : Mode) where

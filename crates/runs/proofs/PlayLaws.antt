@@ -27,7 +27,7 @@ use Rattle.block.proofs.RunLaws.{block_made, block-next}
 use Rattle.block.proofs.TwoLaws.{whole_by}
 use Rattle.runs.specs.Playing.{whole_steps}
 use Rattle.runs.specs.Stopping.{step_refusal, Stops, Plays}
-use Rattle.runs.specs.declared.stop.Halt.{Halt}
+use Rattle.runs.specs.Stopping.{Halt}
 use Rattle.runs.proofs.StepsLaws.{steps_masks, steps-bytes}
 use Rattle.runs.proofs.StopLaws.{not-refused, stop_early}
 

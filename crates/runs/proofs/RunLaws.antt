@@ -11,7 +11,7 @@ use Rattle.state.specs.declared.State.{State}
 use Rattle.frame.specs.Mode.{Mode}
 use Rattle.runs.specs.Playing.{whole_steps, run_refusal, run_number, refused_run, ran}
 use Rattle.runs.specs.Stopping.{Plays}
-use Rattle.runs.specs.declared.Played.{Played}
+use Rattle.runs.specs.Playing.{Played}
 use Rattle.runs.proofs.OneLaws.{plays_only}
 
 module _ (t : Table) (mode : Mode) (masks bs : List ℕ) (s : State) (part : List ℕ) where

@@ -13,7 +13,7 @@ use Rattle.table.specs.declared.Table.{Table}
 use Rattle.state.specs.State.{last_clock}
 use Rattle.scheduler.specs.Taken.{mask_ok}
 use Rattle.runs.specs.Stopping.{step_refusal, Stops}
-use Rattle.runs.specs.declared.stop.Halt.{Halt}
+use Rattle.runs.specs.Stopping.{Halt}
 
 module _ (t : Table) (clock mask : ℕ) where
   pub refuses_18 : mask_ok t mask ≡ false → step_refusal t clock mask ≡ 18

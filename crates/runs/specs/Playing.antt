@@ -1,21 +1,29 @@
 -- What of masks and step bytes a run makes: the whole steps before the first that is refused, and the number that refuses it.
-use Rattle.std.specs.Prelude.{ℕ, ◌/◌, min, List, [], ◌∷◌, ◌++◌, Bool, true, false, length, drop, eqb, leb}
+use Rattle.std.specs.Prelude.{ℕ, ◌/◌, min, List, [], ◌∷◌, ◌++◌, length, drop, eqb, leb}
 use Rattle.basis.specs.Tests.{pick}
 use Rattle.table.specs.Legal.{legal}
 use Rattle.table.specs.declared.Table.{Table}
 use Rattle.state.specs.State.{fits}
 use Rattle.state.specs.declared.State.{State}
-use Rattle.frame.specs.Mode.{Mode, unframed, framed, mode_ok}
-use Rattle.frame.specs.declared.Frame.{Frame}
+use Rattle.frame.specs.Mode.{Mode, mode_ok}
 use Rattle.walk.specs.Step.{Input}
 use Rattle.scheduler.specs.Taken.{Taken, taken}
-use Rattle.block.specs.Block.{byte_of, inputs}
-use Rattle.runs.specs.declared.Played.{Played}
+use Rattle.block.specs.Block.{byte_of, inputs, number_of}
+use Rattle.runs.specs.declared.Played.{Played as Answer}
 
--- The mode of a frame that is there, or is not.
-abbrev pub mode_of : Bool → Frame → Mode
-mode_of true f = framed f
-mode_of false f = unframed
+-- What a run leaves: after n steps the state, and the number that refuses the next whole step, or the run itself (0: none does).
+pub record Played : Type 0 where
+  pub state : State
+  pub why : ℕ
+  pub n : ℕ
+
+-- What an answer of the code says, ..
+abbrev pub played_of : Answer → Played
+played_of r = record { state = r.state; why = number_of r.why; n = r.n }
+
+-- .. with what the part then holds.
+abbrev pub left_by : Answer → List ℕ → Played × List ℕ
+left_by r part = (played_of r, part)
 
 -- The whole steps of so many masks and bytes, where a step has one mask and one byte for each of so many threads.
 unfoldable pub steps_in : ℕ → ℕ → ℕ → ℕ

@@ -6,10 +6,18 @@ use Rattle.state.specs.State.{last_clock}
 use Rattle.state.specs.declared.State.{State}
 use Rattle.frame.specs.Mode.{Mode}
 use Rattle.scheduler.specs.Taken.{mask_ok, taken}
-use Rattle.block.specs.Block.{input_at, Blocked, block}
-use Rattle.runs.specs.Playing.{whole_steps}
-use Rattle.runs.specs.declared.Played.{Played}
-use Rattle.runs.specs.declared.stop.Halt.{Halt}
+use Rattle.block.specs.Block.{input_at, Blocked, block, number_of}
+use Rattle.runs.specs.Playing.{Played, whole_steps}
+use Rattle.runs.specs.declared.stop.Halt.{Halt as Answer}
+
+-- How many steps come before the first that is refused, and its number (0: none is).
+pub record Halt : Type 0 where
+  pub n : ℕ
+  pub why : ℕ
+
+-- What an answer of the code says.
+abbrev pub halt_of : Answer → Halt
+halt_of r = record { n = r.n; why = number_of r.why }
 
 -- The number that refuses a whole step of this mask at a clock: 18, then 14, 0 where none does.
 unfoldable pub step_refusal : Table → ℕ → ℕ → ℕ
