@@ -4,4 +4,3 @@ pub mod Numbered
 pub mod Runs
 pub mod Opened
 pub mod Worked
-pub mod Given

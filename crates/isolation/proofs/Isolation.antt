@@ -1,7 +1,7 @@
 -- Demand 3: what a domain is shown of a run does not depend on the bytes of threads whose domain may not flow to it. It holds
 -- call by call: states that are alike for d and fit stay so (`Lockstep`), and no refusal looks at a byte's value.
 use Prim.Native.Nat.{ℕ, ◌<◌}
-use mathlib.Core.Logic.{◌≢◌}
+use native.Mathlib.Omega.{arith}
 use mathlib.Core.Path.{◌≡◌, refl, sym, ap, ap₂, ◌∙◌, subst}
 use mathlib.Core.List.{List, [], ◌∷◌, map}
 use mathlib.Core.Bool.{true}
@@ -9,7 +9,10 @@ use lib.ListN.{length}
 use lib.Dec.{eqb, ltb}
 use borrow.Author.Tests.{lt-ltb, ne_eqb}
 use Rattle.basis.specs.Tests.{pick}
-use Rattle.basis.specs.Told.{answered, refused}
+use Rattle.basis.specs.Told.{answered}
+use Rattle.basis.specs.Refusals.{number, refused_by}
+use Rattle.basis.specs.declared.refusal.Refusal.{Refusal}
+use Rattle.basis.proofs.RefusalLaws.{number-positive}
 use Rattle.basis.specs.Turns.{in_turn}
 use Rattle.basis.proofs.TestLaws.{both}
 use Rattle.table.specs.Legal.{legal, Legal, Sized}
@@ -30,7 +33,7 @@ use Rattle.walk.specs.declared.Answer.{Answer}
 use Rattle.walk.proofs.MarksLaws.{step_by}
 use Rattle.scheduler.specs.Taken.{Taken, values, told, mask_ok, taken}
 use Rattle.scheduler.specs.Calls.{calls}
-use Rattle.scheduler.specs.declared.Outcome.TheVariants.{Chose, Refused}
+use Rattle.std.proofs.Common.{Ok, Err}
 use Rattle.scheduler.proofs.UniqueLaws.{answer_back}
 use Rattle.scheduler.proofs.CallLaws.{call_by, call_fits}
 use Rattle.sight.specs.Shown.{view, showing, showing_state, seen_threads, threads_shown}
@@ -40,13 +43,13 @@ use Rattle.isolation.proofs.Alike.{Alike, alike_refl, alike_release, alike_tick}
 use Rattle.isolation.proofs.Lockstep.{Agree, Marks, lockstep}
 
 -- `telling` says what the operation `shown` tells of the answer, or the number of the refusal.
-pub telling-chosen : (t : Table) (d : ℕ) (a : Answer) → telling t d (told (Chose a)) ≡ showing t d a
+pub telling-chosen : (t : Table) (d : ℕ) (a : Answer) → telling t d (told (Ok a)) ≡ showing t d a
 unfolding telling pick
 telling-chosen t d a = rw (answer_back a)
 
-pub telling-refused : (t : Table) (d why : ℕ) → why ≢ 0 → telling t d (told (Refused why)) ≡ refused why
+pub telling-refused : (t : Table) (d : ℕ) (why : Refusal) → telling t d (told (Err why)) ≡ refused_by why
 unfolding telling pick
-telling-refused t d why h = rw (ne_eqb _ _ h)
+telling-refused t d why = rw (ne_eqb (number why) 0 (λ e. omega (arith, number-positive why, e)))
 
 module _ (t : Table) (l : Legal t) (d : ℕ) (dd : d < t.domains) where
   -- A step that walks over any list of threads by falling priority.

@@ -2,14 +2,13 @@
 use Prim.Native.Nat.{ℕ, ◌<◌}
 use mathlib.Core.Path.{◌≡◌, refl, ap}
 use mathlib.Core.Logic.{◌↔◌}
-use mathlib.Core.Bool.{true, false}
 use native.Mathlib.Omega.{arith}
 use lib.ListN.{replicate}
 use lib.Dec.{ltb}
 use borrow.Author.Tests.{ltb-true, ltb-false, lt-ltb, le-ltb}
 use Rattle.basis.specs.Tests.{pick}
 use Rattle.basis.specs.Told.{Told}
-use Rattle.basis.proofs.TestLaws.{by_test, both_ways}
+use Rattle.basis.proofs.TestLaws.{by_test}
 use Rattle.basis.proofs.BackLaws.{exactly_by, row_here}
 use Rattle.table.specs.Legal.{legal}
 use Rattle.table.specs.declared.Table.{Table}

@@ -3,13 +3,9 @@ use mathlib.Core.Path.{◌∙◌, ap}
 use lib.IntN.{ℤ}
 use mir.Syntax.{w64}
 use mir.ValLaws.{to_z-of_z}
-use Rattle.scheduler.specs.Taken.{Taken, taken_of}
+use Rattle.scheduler.specs.Taken.{taken_of}
 use Rattle.actuator.specs.Drive.{follows, driven}
-use Rattle.actuator.proofs.DriveLaws.{numbers_of}
 use Rattle.actuator.proofs.drive.Goals as goal
-
-pub follow-requires : goal.follow-requires
-follow-requires c = numbers_of _ _ _ _ c.step-r.result.outcome (ap (λ (x : Taken). x.told) c.step-r.ensures)
 
 pub returns : goal.returns
 unfolding driven

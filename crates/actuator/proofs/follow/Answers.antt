@@ -3,16 +3,15 @@ use mathlib.Core.Path.{◌≡◌, sym, ◌∙◌, ap}
 use mathlib.Core.Bool.{true}
 use mir.Syntax.{w32, w64}
 use mir.ValLaws.{to_z-of_z}
-use Rattle.basis.specs.Told.{answered, refused}
+use Rattle.basis.specs.Told.{answered}
+use Rattle.basis.specs.Refusals.{refused_by}
+use Rattle.basis.specs.declared.refusal.Refusal.{Refusal}
 use Rattle.scheduler.specs.Taken.{Taken, values, told, taken_of}
-use Prim.Native.Nat.{ℕ}
+use Rattle.std.proofs.Common.{Result, Ok, Err}
 use Rattle.walk.specs.declared.Answer.{Answer}
-use Rattle.scheduler.specs.declared.Outcome.{Outcome}
-use Rattle.scheduler.specs.declared.Outcome.TheVariants.{Chose, Refused}
 use Rattle.scheduler.specs.declared.Stepped.{Stepped}
 use Rattle.actuator.specs.Motion.{in_range, ranged}
 use Rattle.actuator.specs.Drive.{Drove, commanded, moved_to, follows}
-use Rattle.actuator.specs.Given.{Numbers}
 use Rattle.actuator.specs.declared.Actuator.{Actuator}
 use Rattle.actuator.proofs.LevelLaws.{read_back}
 use Rattle.actuator.proofs.DriveLaws.{commanded_in, follows-refused, follows_15, follows_20, follows_moves}
@@ -20,11 +19,11 @@ use Rattle.actuator.proofs.follow.Goals as goal
 use Rattle.actuator.proofs.follow.Goals.{Else-not-is_ranged}
 
 -- What the step gave, where it was made and where it was refused.
-made : (r : Stepped) (a : Answer) → r.outcome ≡ Chose a → taken_of r ≡ record { told = answered (values a); state = r.state }
-made r a e = ap (λ (o : Outcome). record { told = told o; state = r.state }) e
+made : (r : Stepped) (a : Answer) → r.outcome ≡ Ok a → taken_of r ≡ record { told = answered (values a); state = r.state }
+made r a e = ap (λ (o : Result Answer Refusal). record { told = told o; state = r.state }) e
 
-not_made : (r : Stepped) (why : ℕ) → r.outcome ≡ Refused why → taken_of r ≡ record { told = refused why; state = r.state }
-not_made r why e = ap (λ (o : Outcome). record { told = told o; state = r.state }) e
+not_made : (r : Stepped) (why : Refusal) → r.outcome ≡ Err why → taken_of r ≡ record { told = refused_by why; state = r.state }
+not_made r why e = ap (λ (o : Result Answer Refusal). record { told = told o; state = r.state }) e
 
 -- What the test of the ranges told, once it was passed.
 in-ranges : (c : Else-not-is_ranged) → ranged c.args.a ≡ true
@@ -33,15 +32,15 @@ in-ranges c = sym c.is_ranged.ensures ∙ c.if-not-is_ranged.false
 pub returns-then-t-a : goal.returns-then-t-a
 returns-then-t-a c =
     let w : Taken → Drove = follows c.args.t _ c.args.s c.args.a in
-    c.refuse.ensures ∙ sym (ap w (made c.args.r c.in-Chose.answer c.in-Chose.is) ∙ follows_15 c.args.t _ c.args.s c.args.a c.in-Chose.answer _ c.if-t-a.true)
+    c.refuse.ensures ∙ sym (ap w (made c.args.r c.in-Ok.answer c.in-Ok.is) ∙ follows_15 c.args.t _ c.args.s c.args.a c.in-Ok.answer _ c.if-t-a.true)
 
 pub returns-then-not-is_ranged : goal.returns-then-not-is_ranged
 returns-then-not-is_ranged c =
     let w : Taken → Drove = follows c.args.t _ c.args.s c.args.a in
     c.refuse-then-not-is_ranged.ensures
     ∙ sym
-    (ap w (made c.args.r c.in-Chose.answer c.in-Chose.is)
-    ∙ follows_20 c.args.t _ c.args.s c.args.a c.in-Chose.answer _ c.if-t-a.false
+    (ap w (made c.args.r c.in-Ok.answer c.in-Ok.is)
+    ∙ follows_20 c.args.t _ c.args.s c.args.a c.in-Ok.answer _ c.if-t-a.false
     (sym c.is_ranged.ensures ∙ c.if-not-is_ranged.true))
 
 pub move_to-requires : goal.move_to-requires
@@ -52,17 +51,16 @@ move_to-requires c =
 pub returns-else-not-is_ranged : goal.returns-else-not-is_ranged
 returns-else-not-is_ranged c =
     let w : Taken → Drove = follows c.args.t c.args.command c.args.s c.args.a in
-    let e : c.move_to.result ≡ moved_to c.args.a (commanded c.args.a c.in-Chose.answer c.args.command) =
+    let e : c.move_to.result ≡ moved_to c.args.a (commanded c.args.a c.in-Ok.answer c.args.command) =
     c.move_to.ensures
     ∙ ap (moved_to c.args.a)
     (to_z-of_z w32 c.stand-c.result (record { sfits = c.stand-c.type_inv })
     ∙ c.stand-c.ensures
-    ∙ ap (commanded c.args.a c.in-Chose.answer) (to_z-of_z w64 c.args.command c.ranges.command)) in
-    ap (λ (x : Actuator). record { told = answered (values c.in-Chose.answer); state = c.args.r.state; actuator = x }) e
-    ∙ sym (ap w (made c.args.r c.in-Chose.answer c.in-Chose.is) ∙ follows_moves c.args.t c.args.command c.args.s c.args.a c.in-Chose.answer _ c.if-t-a.false (in-ranges (goal.at.returns-else-not-is_ranged c).Else-not-is_ranged))
+    ∙ ap (commanded c.args.a c.in-Ok.answer) (to_z-of_z w64 c.args.command c.ranges.command)) in
+    ap (λ (x : Actuator). record { told = answered (values c.in-Ok.answer); state = c.args.r.state; actuator = x }) e
+    ∙ sym (ap w (made c.args.r c.in-Ok.answer c.in-Ok.is) ∙ follows_moves c.args.t c.args.command c.args.s c.args.a c.in-Ok.answer _ c.if-t-a.false (in-ranges (goal.at.returns-else-not-is_ranged c).Else-not-is_ranged))
 
-pub returns-in-Refused : goal.returns-in-Refused
-returns-in-Refused c =
+pub returns-in-Err : goal.returns-in-Err
+returns-in-Err c =
     let w : Taken → Drove = follows c.args.t _ c.args.s c.args.a in
-    let h : Numbers c.args.r.outcome = c.requires in
-    c.refuse-in-Refused.ensures ∙ sym (ap w (not_made c.args.r c.in-Refused.why c.in-Refused.is) ∙ follows-refused c.args.t _ c.args.s c.args.a c.in-Refused.why _ (rw c.in-Refused.is at h))
+    c.refuse-in-Err.ensures ∙ sym (ap w (not_made c.args.r c.in-Err.why c.in-Err.is) ∙ follows-refused c.args.t _ c.args.s c.args.a c.in-Err.why _)

@@ -1,10 +1,8 @@
 use Rattle.sight.specs.Shown.{showing}
 use Rattle.table.proofs.LegalLaws.{legal_small}
 use Rattle.basis.specs.Tests.{pick}
-use borrow.Author.Tests.{not-true, not-false, lt-ltb, le-ltb}
-use mathlib.Core.Bool.{true}
-use mathlib.Core.Path.{◌≡◌, sym, ◌∙◌}
-use borrow.Author.Rules.{rules}
+use borrow.Author.Tests.{lt-ltb, le-ltb}
+use mathlib.Core.Path.{sym, ◌∙◌}
 use Rattle.sight.proofs.shown.Goals as goal
 
 pub returns-then-not-legal : goal.returns-then-not-legal

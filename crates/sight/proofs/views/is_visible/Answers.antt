@@ -1,7 +1,6 @@
 use Rattle.sight.specs.Shown.{visible}
 use Rattle.table.specs.Mark.{seen_by}
 use borrow.Author.Tests.{lt-ltb, le-ltb}
-use borrow.Author.Rules.{rules}
 use Rattle.sight.proofs.views.is_visible.Goals as goal
 
 pub returns-then-t-i : goal.returns-then-t-i

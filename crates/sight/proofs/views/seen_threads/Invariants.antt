@@ -1,14 +1,10 @@
-use Rattle.sight.specs.Shown.{seen_progress, seen_threads}
+use Rattle.sight.specs.Shown.{seen_progress}
 use Rattle.state.specs.State.{no_progress}
-use Rattle.basis.proofs.SearchLaws.{listed-none, listed_next}
 use Rattle.basis.specs.Search.{listed}
-use native.Mathlib.Omega.{arith}
-use native.Mathlib.Nat.{le_antisymm}
 use lib.ListN.{replicate}
-use mathlib.Core.List.{◌++◌, append-nil}
-use mathlib.Core.Path.{◌≡◌, refl, sym, ◌∙◌}
+use mathlib.Core.List.{◌++◌}
+use mathlib.Core.Path.{◌≡◌}
 use Prim.Native.Nat.{◌≤◌, ◌-◌}
-use borrow.Author.Rules.{rules}
 use Rattle.sight.proofs.views.seen_threads.Given as goal
 
 abbrev pub invariant-loop-i : goal.invariant-loop-i

@@ -1,7 +1,6 @@
 use Rattle.sight.specs.Shown.{view}
 use Rattle.basis.specs.Tests.{pick}
 use mathlib.Core.Path.{sym, ◌∙◌}
-use borrow.Author.Rules.{rules}
 use Rattle.sight.proofs.views.view.Goals as goal
 
 pub returns-then-is_visible : goal.returns-then-is_visible
