@@ -167,9 +167,7 @@ impl<R: Print + Eprint, S: Read> Driving<'_, R, S> {
 }
 
 // The commands of word 4 and how many lines they have, each of which must be a number.
-fn open_commands<R: Runtime>(
-    rt: &R,
-) -> Result<(Source<R::File, R::Reader>, u64), Stop> {
+fn open_commands<R: Runtime>(rt: &R) -> Result<(Source<R::File, R::Reader>, u64), Stop> {
     let mut commands = open_named(rt, 4)?;
     let Ok(lines) = count_commands(&mut commands) else {
         return Err(wrong(rt, "a line of the commands is no number"));
@@ -202,11 +200,7 @@ pub fn drive(rt: &impl Runtime) -> Result<(), Stop> {
         steps,
         events,
         commands: Commands::new(commands),
-        actuator: start(
-            o.start,
-            o.rate.min(4000000) as u32,
-            o.thread.min(255) as u8,
-        ),
+        actuator: start(o.start, o.rate.min(4000000) as u32, o.thread.min(255) as u8),
         page: Page::new(),
     };
     take_turns(|| driving.take_block())

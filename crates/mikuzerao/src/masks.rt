@@ -29,11 +29,7 @@ impl Came<'_> {
 }
 
 // The masks of the next n steps, as many as there is place for, 4,000 at most. Without a file of events they are empty.
-pub fn take_masks<'a, S: Read>(
-    events: &mut Option<S>,
-    masks: &'a mut [u32],
-    n: usize,
-) -> Came<'a> {
+pub fn take_masks<'a, S: Read>(events: &mut Option<S>, masks: &'a mut [u32], n: usize) -> Came<'a> {
     let n = n.min(masks.len());
     let masks = &mut masks[..n];
     match events {

@@ -7,27 +7,9 @@ use super::words::want_words;
 use basis::Refusal;
 use mend::{Unmendable, mend};
 use sentence::{Form, explain, row_cause};
-use std::fmt;
-use std::fmt::{Display, Formatter, Write};
 use std::io::Read;
 use std::rt::Runtime;
 use typed::{Fault, Rows, close_rows, new_rows, read_rows};
-
-// Rows as a line has them.
-#[derive(Clone, Copy, Debug, PartialEq, Eq)]
-struct Line<'a>(&'a [u16]);
-
-impl Display for Line<'_> {
-    fn fmt<W: Write>(&self, f: &mut Formatter<W>) -> fmt::Result {
-        for (i, row) in self.0.iter().enumerate() {
-            if 0 < i {
-                write!(f, ",")?;
-            }
-            write!(f, "{row}")?;
-        }
-        Ok(())
-    }
-}
 
 // The rows of a text, and those that its source gives behind it.
 fn read_all<S: Read>(from: &mut S, text: &[u8]) -> Rows {
@@ -57,7 +39,10 @@ fn refuse_row(
 
 // The rows mended, and the pairs that were added.
 fn say_mended(rt: &(impl Print + Eprint), rows: &[u16], pairs: &[u8]) {
-    say(rt, format_args!("{}\n", Line(rows)));
+    for (i, row) in rows.iter().enumerate() {
+        let end = if i + 1 < rows.len() { "," } else { "\n" };
+        say(rt, format_args!("{row}{end}"));
+    }
     say(rt, format_args!("added {}\n", pairs.len()));
     for p in pairs {
         say(rt, format_args!("{} {}\n", p / 16, p % 16));

@@ -56,7 +56,11 @@ fn take_named(
     behind: usize,
     o: &mut Options,
 ) -> Result<(), Stop> {
-    let name = wanted(rt, read_word(rt, i, |word| name_of(call, word)), "no such option")?;
+    let name = wanted(
+        rt,
+        read_word(rt, i, |word| name_of(call, word)),
+        "no such option",
+    )?;
     match name {
         Name::Events => o.events = Some(behind),
         Name::Frame => o.frame = Some(behind),
@@ -89,21 +93,14 @@ fn take_option(
         return Ok(i + 1);
     }
     if i + 1 == count {
-        return Err(wrong(
-            rt,
-            "an option that is not there, or nothing behind it",
-        ));
+        return Err(wrong(rt, "an option that is not there, or nothing behind it"));
     }
     take_named(rt, call, i, i + 1, o)?;
     Ok(i + 2)
 }
 
 // The options of a call from a word on, eight at most.
-pub fn take_options(
-    rt: &(impl Env + Eprint),
-    call: Call,
-    from: usize,
-) -> Result<Options, Stop> {
+pub fn take_options(rt: &(impl Env + Eprint), call: Call, from: usize) -> Result<Options, Stop> {
     let count = count_words(rt);
     let mut o = Options {
         events: None,

@@ -19,14 +19,12 @@ impl<T: Display> Display for OrDash<T> {
 
 fn say_thread(rt: &(impl Print + Eprint), t: &Table, i: u8, mark: Mark) {
     if let (Ok(search), Ok(time)) = (admission::bound_of(*t, i), admission::prohibition(*t, i)) {
-        let mark = OrDash(mark);
-        let bound = OrDash(search.bound);
+        say(rt, format_args!("thread {i}"));
+        say(rt, format_args!(" mark {}", OrDash(mark)));
+        say(rt, format_args!(" bound {}", OrDash(search.bound)));
         say(
             rt,
-            format_args!(
-                "thread {i} mark {mark} bound {bound} searched {} prohibition {time}\n",
-                search.tried
-            ),
+            format_args!(" searched {} prohibition {time}\n", search.tried),
         );
     }
 }

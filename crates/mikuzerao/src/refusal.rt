@@ -46,12 +46,7 @@ pub fn refuse<F: FnOnce(&mut [u8]) -> usize>(
 }
 
 // A refused table, with the text that it was read from.
-pub fn refuse_table(
-    rt: &(impl Print + Eprint),
-    to: Stream,
-    text: &[u8],
-    fault: Fault,
-) -> Stop {
+pub fn refuse_table(rt: &(impl Print + Eprint), to: Stream, text: &[u8], fault: Fault) -> Stop {
     let Fault { why, place } = fault;
     let form = form_of(text);
     refuse(rt, to, why, Some(place as u64), |out| {

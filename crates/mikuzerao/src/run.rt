@@ -18,8 +18,8 @@ use std::io::Read;
 use std::rt::Runtime;
 use table::Table;
 
-// A run: what it is of, how it is shown, whether the state is asked for at the end, where its steps and masks come from, and how far it is. The bytes at the front of its buffer
-// are of a step that is not whole.
+// A run: what it is of, how it is shown, whether the state is told at its end, where its steps and masks come from, and how far it is.
+// The bytes at the front of its buffer are of a step that is not whole.
 #[derive(Drop)]
 struct Running<'a, R, S> {
     rt: &'a R,

@@ -28,11 +28,7 @@ pub fn refusals_to(look: &Look) -> Stream {
 }
 
 // Lines, to a domain where one is asked for; one that the table has not is 15.
-pub fn look_of(
-    rt: &(impl Print + Eprint),
-    t: &Table,
-    domain: Option<u64>,
-) -> Result<Look, Stop> {
+pub fn look_of(rt: &(impl Print + Eprint), t: &Table, domain: Option<u64>) -> Result<Look, Stop> {
     let Some(n) = domain else {
         return Ok(Look::Whole);
     };
