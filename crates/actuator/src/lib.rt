@@ -34,6 +34,7 @@ pub struct Driven {
 }
 
 // The actuator before the first step. Numbers outside their range are refused by each call that is handed it.
+#[tactic(auto, using(std::proofs::lemmas::Int::ints), unfolding(crate::specs::Motion::start))]
 pub fn start(position: i32, rate: u32, thread: u8) -> Actuator
     ensures { result ≡ the-start position rate thread }
 {
@@ -56,6 +57,7 @@ fn refuse(why: Refusal, s: State, a: Actuator) -> Driven
 }
 
 // The move that follows a step, or its refusal: the step's own, 15, 20, or the answer with the next state and actuator.
+#[tactic(auto, using(std::proofs::lemmas::Int::ints, crate::proofs::DriveLaws::moving), unfolding(crate::specs::Drive::follows, basis::specs::Tests::pick))]
 fn follow(t: Table, s: State, a: Actuator, command: i64, r: Stepped) -> Driven
     ensures { drove_of result ≡ follows t command s a (taken_of r) }
 {
@@ -80,6 +82,7 @@ fn follow(t: Table, s: State, a: Actuator, command: i64, r: Stepped) -> Driven
 }
 
 // One step and one move: the step's own refusals, 15, 20, or the answer with the next state and actuator.
+#[tactic(auto, using(std::proofs::lemmas::Int::ints), unfolding(crate::specs::Drive::driven))]
 pub fn drive(t: Table, s: State, a: Actuator, mask: u32, bytes: &[u8], command: i64) -> Driven
     ensures { drove_of result ≡ driven t unframed (record { input = record { mask = mask; bytes = bytes.now }; command = command }) s a }
 {
@@ -88,6 +91,7 @@ pub fn drive(t: Table, s: State, a: Actuator, mask: u32, bytes: &[u8], command: 
 }
 
 // The same in a frame.
+#[tactic(auto, using(std::proofs::lemmas::Int::ints), unfolding(crate::specs::Drive::driven))]
 pub fn drive_in_frame(
     t: Table,
     f: Frame,

@@ -1,3 +1,4 @@
+pub mod ThreadsLaws
 pub mod SumLaws
 pub mod QuotientLaws
 pub mod DemandLaws
@@ -8,5 +9,6 @@ pub mod AdmitLaws
 pub mod WorstLaws
 pub mod ProhibitionLaws
 pub mod IdleLaws
+pub mod AskedLaws
 pub mod UniqueLaws
 pub mod LargestLaws

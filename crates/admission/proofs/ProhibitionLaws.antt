@@ -1,6 +1,8 @@
 -- The prohibition time is what the plain rows say, and the largest of any legal table, which no sum on the way passes.
 use Prim.Native.Nat.{ℕ, ◌*◌, ◌≤◌, ◌<◌}
-use mathlib.Core.Path.{◌≡◌, sym, ◌∙◌, subst}
+use mathlib.Core.Path.{◌≡◌, sym, ◌∙◌, ap, subst}
+use Rattle.std.proofs.Common.{List, get_or, is_some}
+use Rattle.basis.specs.Search.{nothing}
 use mathlib.Core.Bool.{Bool, true, false, true≢false}
 use mathlib.Core.Logic.{◌↔◌}
 use native.Mathlib.Nat.{le_refl, le_trans, mul-le-mul_left}
@@ -13,10 +15,10 @@ use Rattle.basis.specs.Told.{Told}
 use Rattle.basis.proofs.TestLaws.{by_test, either, and-false}
 use Rattle.table.specs.Threads.{thread}
 use Rattle.table.specs.Legal.{legal, Legal, LegalThread}
-use Rattle.table.specs.Mark.{marked}
+use Rattle.table.specs.Mark.{Mark, marked, mark, marks_of}
 use Rattle.table.specs.declared.Table.{Table}
 use Rattle.table.specs.declared.Thread.{Thread}
-use Rattle.table.proofs.MarkLaws.{mark_sound, mark_complete}
+use Rattle.table.proofs.MarkLaws.{mark_sound, mark_complete, set_exactly}
 use Rattle.admission.specs.Demand.{sum, SumOf, above}
 use Rattle.admission.specs.Prohibition.{stretch, prohibition, prohibiting, Prohibits, marked-above, otherwise, ProhibitionAnswer, not-legal, no_thread, prohibited}
 use Rattle.admission.proofs.SumLaws.{sum_longer, sum_but_one, sum-given, sum_only}
@@ -114,3 +116,8 @@ pub prohibition_partial : (t : Table) → Legal t → (l n : ℕ) → l < t.coun
 unfolding prohibition
 prohibition_partial t g l n k m =
     le_trans (sum_longer (λ h. stretch (thread t l) (marked t h) (thread t h)) n t.count m) (prohibition-most t g l k)
+
+-- What is brought by the mark that stands in the list of all marks is what the table's own mark brings.
+pub brought : (t : Table) (l k r : ℕ) (b : Bool) (h : Thread) (m : Mark) (ms : List Mark) → k < t.count → r ≡ stretch (thread t l) b h → b ≡ is_some m → h ≡ thread t k
+    → m ≡ get_or ms k (mark nothing) → ms ≡ marks_of t → r ≡ stretch (thread t l) (marked t k) (thread t k)
+brought t l k r b h m ms lt e f g i j = rw (e, f, g, i, j) (ap (λ (x : Bool). stretch (thread t l) x (thread t k)) (set_exactly t k lt))

@@ -14,4 +14,3 @@ worst t = sum t.count (most_tried t)
 -- 11, or the worst count.
 unfoldable pub worst_given : Table → Told
 worst_given t = pick (legal t) (answered (worst t ∷ [])) (refused 11)
-

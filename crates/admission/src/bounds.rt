@@ -29,10 +29,7 @@ pub fn find_bound(t: Table, i: u8) -> Search
         }
         x = next;
     }
-    Search {
-        bound: None,
-        tried,
-    }
+    Search { bound: None, tried }
 }
 
 // The admission of a table that is known to be legal.

@@ -24,9 +24,8 @@ pub fn demand(t: Table, i: u8, x: u32) -> u64
 {
     let own = t.threads[i as usize];
     let mut sum = own.budget as u64;
-    for h in 0..t.count {
-        let other = t.threads[h as usize];
-        sum += share(own, x, other);
+    for other in &t.threads[..t.count as usize] {
+        sum += share(own, x, *other);
     }
     sum
 }

@@ -1,8 +1,11 @@
 // Admission: the bound of each thread by time-demand analysis, and beside it the prohibition time, and the most idle steps on a thread's account.
 #![tactic(auto)]
 
-ghost use Rattle.std.specs.Prelude.{◌≡◌};
-ghost use Rattle.basis.specs.Refusals.{told_number};
+ghost use Rattle.std.specs.Prelude.{◌≡◌, ◌<◌, ltb, [], OnOk};
+ghost use Rattle.basis.specs.Tests.{pick};
+ghost use Rattle.basis.specs.Told.{answered, refused};
+ghost use Rattle.basis.specs.Refusals.{told_number, told_done};
+ghost use Rattle.table.specs.Legal.{legal as is_legal, Legal};
 ghost use Rattle.admission.specs.Bounded.{told, count_in, bounding};
 ghost use Rattle.admission.specs.Tried.{count_given};
 ghost use Rattle.admission.specs.Admit.{told as told-admitting, bounds_in, counts_in, admitting, bounds_given, counts_given};
@@ -41,13 +44,34 @@ pub struct Admission {
     pub tried: [u16; 32],
 }
 
-// All bounds, or the first thread that has none; refuses with 11.
-pub fn admit(t: Table) -> Result<Admission, Refusal>
-    ensures { (told-admitting result ≡ admitting t) × (bounds_in result ≡ bounds_given t) × (counts_in result ≡ counts_given t) }
+// Whether a table is legal; refuses with 11.
+fn lawful(t: Table) -> Result<(), Refusal>
+    ensures told { told_done result ≡ pick (is_legal t) (answered []) (refused 11) }
+    ensures ok { OnOk result (Legal t) }
 {
     if !legal(t) {
         return Err(Refusal::NotLegal);
     }
+    Ok(())
+}
+
+// Whether a table is legal and has thread i; refuses with 11, 15.
+fn has_thread(t: Table, i: u8) -> Result<(), Refusal>
+    ensures told { told_done result ≡ pick (is_legal t) (pick (ltb i t.count) (answered []) (refused 15)) (refused 11) }
+    ensures ok { OnOk result (Legal t × (i < t.count)) }
+{
+    lawful(t)?;
+    if t.count <= i {
+        return Err(Refusal::Missing);
+    }
+    Ok(())
+}
+
+// All bounds, or the first thread that has none; refuses with 11.
+pub fn admit(t: Table) -> Result<Admission, Refusal>
+    ensures { (told-admitting result ≡ admitting t) × (bounds_in result ≡ bounds_given t) × (counts_in result ≡ counts_given t) }
+{
+    lawful(t)?;
     Ok(admit_legal(t))
 }
 
@@ -55,12 +79,7 @@ pub fn admit(t: Table) -> Result<Admission, Refusal>
 pub fn bound_of(t: Table, i: u8) -> Result<Search, Refusal>
     ensures { (told result ≡ bounding t i) × (count_in result ≡ count_given t i) }
 {
-    if !legal(t) {
-        return Err(Refusal::NotLegal);
-    }
-    if t.count <= i {
-        return Err(Refusal::Missing);
-    }
+    has_thread(t, i)?;
     Ok(find_bound(t, i))
 }
 
@@ -68,9 +87,7 @@ pub fn bound_of(t: Table, i: u8) -> Result<Search, Refusal>
 pub fn worst_count(t: Table) -> Result<u32, Refusal>
     ensures { told_number result ≡ worst_given t }
 {
-    if !legal(t) {
-        return Err(Refusal::NotLegal);
-    }
+    lawful(t)?;
     Ok(worst_of(t))
 }
 
@@ -78,12 +95,7 @@ pub fn worst_count(t: Table) -> Result<u32, Refusal>
 pub fn prohibition(t: Table, l: u8) -> Result<u64, Refusal>
     ensures { told_number result ≡ prohibiting t l }
 {
-    if !legal(t) {
-        return Err(Refusal::NotLegal);
-    }
-    if t.count <= l {
-        return Err(Refusal::Missing);
-    }
+    has_thread(t, l)?;
     Ok(prohibition_time(t, l))
 }
 
@@ -91,11 +103,6 @@ pub fn prohibition(t: Table, l: u8) -> Result<u64, Refusal>
 pub fn idle_most(t: Table, h: u8, length: u32) -> Result<u64, Refusal>
     ensures { told_number result ≡ idling t h length }
 {
-    if !legal(t) {
-        return Err(Refusal::NotLegal);
-    }
-    if t.count <= h {
-        return Err(Refusal::Missing);
-    }
+    has_thread(t, h)?;
     Ok(idle_within(t, h, length))
 }

@@ -11,10 +11,7 @@ fn stretch(own: Thread, marked: bool, h: Thread) -> u64
     requires { (1 ≤ own.period) × (1 ≤ h.period) }
     ensures { result ≡ the-stretch own marked h }
 {
-    if !marked {
-        return 0;
-    }
-    if h.priority <= own.priority {
+    if !marked || h.priority <= own.priority {
         return 0;
     }
     rounded_up(own.period as u32, h.period as u32) * h.blocking as u64
@@ -28,10 +25,8 @@ pub fn prohibition_time(t: Table, l: u8) -> u64
     let own = t.threads[l as usize];
     let marks = mark_all(t);
     let mut sum = 0u64;
-    for h in 0..t.count {
-        let mark = marks[h as usize];
-        let upper = t.threads[h as usize];
-        sum += stretch(own, mark.is_some(), upper);
+    for (upper, mark) in t.threads[..t.count as usize].iter().zip(&marks) {
+        sum += stretch(own, mark.is_some(), *upper);
     }
     sum
 }

@@ -11,8 +11,7 @@ pub fn worst_of(t: Table) -> u32
     ensures { result ≡ worst t }
 {
     let mut sum = 0u32;
-    for i in 0..t.count {
-        let own = t.threads[i as usize];
+    for own in &t.threads[..t.count as usize] {
         sum += own.deadline as u32 - own.budget as u32 + 1;
     }
     sum

@@ -10,7 +10,7 @@ abbrev back : Told → Refusal
 back t =
     let vs = t.values in
     get_or (EndsEarly ∷ EndsEarly ∷ NotShortest ∷ TooLarge ∷ Version ∷ Count ∷ Row ∷ Intransitive (get_or vs 0 0) (get_or vs 1 0) (get_or vs 2 0) ∷ Field
-        ∷ PriorityTaken ∷ Extra ∷ NotLegal ∷ NotFitting ∷ StepBytes ∷ LastClock ∷ Missing ∷ NoRoom ∷ NoRoom ∷ EventMask ∷ Frame ∷ Actuator ∷ TraceByte ∷ [])
+    ∷ PriorityTaken ∷ Extra ∷ NotLegal ∷ NotFitting ∷ StepBytes ∷ LastClock ∷ Missing ∷ NoRoom ∷ NoRoom ∷ EventMask ∷ Frame ∷ Actuator ∷ TraceByte ∷ [])
     t.number EndsEarly
 
 back-refused : (why : Refusal) → back (refused_by why) ≡ why

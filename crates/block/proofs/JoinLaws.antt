@@ -1,15 +1,11 @@
 -- Stretches one after the other are one.
-use Prim.Native.Nat.{ℕ, zero, suc, ◌+◌, ◌≤◌, ◌<◌}
+use Prim.Native.Nat.{ℕ, zero, suc, ◌+◌, ◌<◌}
 use mathlib.Core.Path.{◌≡◌, sym, ◌∙◌, ap}
 use mathlib.Core.List.{List, [], ◌∷◌, ◌++◌, map, map-append, append_assoc, append-nil}
 use native.Mathlib.Omega.{arith}
-use native.Mathlib.Nat.{add-zero, add-suc, zero-add, le_refl}
+use native.Mathlib.Nat.{add-zero, add-suc, zero-add}
 use lib.ListN.{length}
 use lib.Seq.{sets}
-use lib.Dec.{ltb}
-use borrow.Author.Tests.{ltb-true, ltb-false}
-use Rattle.basis.specs.Tests.{pick}
-use Rattle.basis.proofs.TestLaws.{either, both_ways}
 use Rattle.basis.specs.Search.{listed}
 use Rattle.basis.specs.Turns.{in_turn}
 use Rattle.basis.proofs.TurnLaws.{turns_join, after_join}
@@ -74,14 +70,3 @@ module _ (t : Table) (mode : Mode) (m : List Mark) (a : m ≡ marks_of t) (is ma
       ∙ ap (λ (i : ℕ). sets (sets o 0 d) i b) (sym c)
       ∙ sets_join d b o 0
       ∙ ap (λ (l : List ℕ). sets o 0 l) (sym j)
-
--- The smaller of two numbers is at most each of them, and is above 0 where both are.
-module _ (n a b : ℕ) (e : n ≡ pick (ltb a b) a b) where
-  pub shorter_steps : n ≤ b
-  shorter_steps = rw e (either (λ (x : ℕ). x ≤ b) (ltb a b) (λ l. omega (arith, ltb-true a b l)) (λ l. le_refl b))
-
-  pub shorter_left : n ≤ a
-  shorter_left = rw e (either (λ (x : ℕ). x ≤ a) (ltb a b) (λ l. le_refl a) (λ l. ltb-false a b l))
-
-  pub shorter_some : 0 < a → 0 < b → 0 < n
-  shorter_some p q = rw e (both_ways (λ (x : ℕ). 0 < x) (ltb a b) a b p q)

@@ -11,3 +11,4 @@ pub mod CallLaws
 pub mod TwoLaws
 pub mod RecordLaws
 pub mod NumberLaws
+pub mod UniqueLaws

@@ -16,6 +16,8 @@ use Rattle.state.specs.Methods.{aged}
 use Rattle.state.specs.declared.Progress.{Progress}
 use Rattle.state.specs.declared.State.{State}
 use Rattle.block.specs.Play.{event_effect, clock_effect, since_after}
+use Rattle.block.specs.declared.thread.Effect.{Effect}
+use Rattle.block.specs.declared.thread.Effect.TheVariants.{Stay, Refill, Empty}
 
 -- A field stored in what stands at a place, as the code does it.
 abbrev pub rest_stored : State → ℕ → ℕ → State
@@ -79,11 +81,16 @@ pub waits_long : (s : State) (i v : ℕ) (f : Bool) → length (mark_stored (res
 waits_long s i v f = simp length-set
 
 -- A release by its effect, whichever the kind.
-unfoldable effect : Thread → ℕ → Bool → ℕ → ℕ
+unfoldable effect : Thread → ℕ → Bool → ℕ → Effect
 effect th c e n = pick (eqb th.kind 1) (event_effect th e n) (clock_effect th c)
 
-released_by : (th : Thread) (c : ℕ) (e : Bool) (p : Progress) → released th c e p
-    ≡ pick (eqb (effect th c e p.since) 1) (refilled th p) (pick (eqb (effect th c e p.since) 2) (cut p) p)
+-- What an effect makes of a thread.
+abbrev affected : Effect → Thread → Progress → Progress
+affected Stay th p = p
+affected Refill th p = refilled th p
+affected Empty th p = cut p
+
+released_by : (th : Thread) (c : ℕ) (e : Bool) (p : Progress) → released th c e p ≡ affected (effect th c e p.since) th p
 unfolding released by_event by_clock at_phase effect event_effect clock_effect pick
 released_by th c e p =
     by_test (eqb th.kind 1)
@@ -93,11 +100,11 @@ released_by th c e p =
     (λ o. by_test (eqb ((c - th.offset) % th.period) 0) (λ f. rw (k, o, f))
     (λ f. by_test (leb th.deadline ((c - th.offset) % th.period)) (λ g. rw (k, o, f, g)) (λ g. rw (k, o, f, g)))))
 
-by_its_event : (th : Thread) (c : ℕ) (ev : Bool) (n e : ℕ) → th.kind ≡ 1 → e ≡ event_effect th ev n → e ≡ effect th c ev n
+by_its_event : (th : Thread) (c : ℕ) (ev : Bool) (n : ℕ) (e : Effect) → th.kind ≡ 1 → e ≡ event_effect th ev n → e ≡ effect th c ev n
 unfolding effect pick
 by_its_event th c ev n e k q = rw (eq-eqb th.kind 1 k) q
 
-by_the_clock : (th : Thread) (c : ℕ) (ev : Bool) (n e : ℕ) → (th.kind ≡ 1 → ⊥) → e ≡ clock_effect th c → e ≡ effect th c ev n
+by_the_clock : (th : Thread) (c : ℕ) (ev : Bool) (n : ℕ) (e : Effect) → (th.kind ≡ 1 → ⊥) → e ≡ clock_effect th c → e ≡ effect th c ev n
 unfolding effect pick
 by_the_clock th c ev n e k q = rw (ne_eqb th.kind 1 k) q
 
@@ -118,66 +125,62 @@ unfoldable pub moved : Thread → ℕ → Bool → Progress → Progress
 moved th c ev p = aged th (released th c ev p)
 
 -- Their three effects, as the code stores them: first with the steps since release.
-module _ (s : State) (i : ℕ) (l : i < length s.threads) (th : Thread) (c : ℕ) (ev : Bool) (e : ℕ) (told : e ≡ effect th c ev (progress s i).since) where
-  refills : (x n : ℕ) → x ≡ execution_budget th → n ≡ since_after th 0 → e ≡ 1
-      → since_stored (mark_stored (execution_stored (rest_stored s i th.budget) i x) i false) i n ≡ put s i (moved th c ev (progress s i))
-  unfolding moved pick
-  refills x n b a q = released-stored s i l th.budget x false n ∙ rw (released_by th c ev (progress s i), ← told, q, b, a, aged_by th (refilled th (progress s i)))
+module _ (s : State) (i : ℕ) (l : i < length s.threads) (th : Thread) (c : ℕ) (ev : Bool) where
+  abbrev Told : Effect → Type 0
+  Told e = e ≡ effect th c ev (progress s i).since
 
-  empties : (n : ℕ) → n ≡ since_after th (progress s i).since → e ≡ 2
+  refills : Told Refill → (x n : ℕ) → x ≡ execution_budget th → n ≡ since_after th 0
+      → since_stored (mark_stored (execution_stored (rest_stored s i th.budget) i x) i false) i n ≡ put s i (moved th c ev (progress s i))
+  unfolding moved
+  refills told x n b a = released-stored s i l th.budget x false n ∙ rw (released_by th c ev (progress s i), ← told, b, a, aged_by th (refilled th (progress s i)))
+
+  empties : Told Empty → (n : ℕ) → n ≡ since_after th (progress s i).since
       → since_stored (execution_stored (rest_stored s i 0) i 0) i n ≡ put s i (moved th c ev (progress s i))
-  unfolding moved pick
-  empties n a q =
+  unfolding moved
+  empties told n a =
       ap (λ (z : State). since_stored z i n) (two-stored s i l 0 0)
       ∙ restored s i (λ r. with_since n r) (cut (progress s i)) l
-      ∙ rw (released_by th c ev (progress s i), ← told, q, a, aged_by th (cut (progress s i)))
+      ∙ rw (released_by th c ev (progress s i), ← told, a, aged_by th (cut (progress s i)))
 
-  leaves : (n : ℕ) → n ≡ since_after th (progress s i).since → (e ≡ 1 → ⊥) → (e ≡ 2 → ⊥)
-      → since_stored s i n ≡ put s i (moved th c ev (progress s i))
-  unfolding moved pick
-  leaves n a q r = rw (released_by th c ev (progress s i), ← told, ne_eqb e 1 q, ne_eqb e 2 r, a, aged_by th (progress s i))
+  leaves : Told Stay → (n : ℕ) → n ≡ since_after th (progress s i).since → since_stored s i n ≡ put s i (moved th c ev (progress s i))
+  unfolding moved
+  leaves told n a = rw (released_by th c ev (progress s i), ← told, a, aged_by th (progress s i))
 
   -- .. and without them, where they stay.
-  empties_still : since_after th (progress s i).since ≡ (progress s i).since → e ≡ 2
+  empties_still : since_after th (progress s i).since ≡ (progress s i).since → Told Empty
       → execution_stored (rest_stored s i 0) i 0 ≡ put s i (moved th c ev (progress s i))
-  unfolding moved pick
-  empties_still a q = two-stored s i l 0 0 ∙ rw (released_by th c ev (progress s i), ← told, q, aged_by th (cut (progress s i)), a)
+  unfolding moved
+  empties_still a told = two-stored s i l 0 0 ∙ rw (released_by th c ev (progress s i), ← told, aged_by th (cut (progress s i)), a)
 
-  leaves_still : since_after th (progress s i).since ≡ (progress s i).since → (e ≡ 1 → ⊥) → (e ≡ 2 → ⊥) → s ≡ put s i (moved th c ev (progress s i))
-  unfolding moved pick
-  leaves_still a q r =
-      rw (released_by th c ev (progress s i), ← told, ne_eqb e 1 q, ne_eqb e 2 r, aged_by th (progress s i), a) (sym (put_back s i))
+  leaves_still : since_after th (progress s i).since ≡ (progress s i).since → Told Stay → s ≡ put s i (moved th c ev (progress s i))
+  unfolding moved
+  leaves_still a told = rw (released_by th c ev (progress s i), ← told, aged_by th (progress s i), a) (sym (put_back s i))
 
 -- The same of an event thread, ..
-module _ (s : State) (i : ℕ) (l : i < length s.threads) (th : Thread) (c : ℕ) (ev : Bool) (e : ℕ) (k : th.kind ≡ 1)
-    (told : e ≡ event_effect th ev (progress s i).since) where
-  pub event_refills : (x n : ℕ) → x ≡ execution_budget th → n ≡ since_after th 0 → e ≡ 1
+module _ (s : State) (i : ℕ) (l : i < length s.threads) (th : Thread) (c : ℕ) (ev : Bool) (k : th.kind ≡ 1) where
+  pub event_refills : Refill ≡ event_effect th ev (progress s i).since → (x n : ℕ) → x ≡ execution_budget th → n ≡ since_after th 0
       → since_stored (mark_stored (execution_stored (rest_stored s i th.budget) i x) i false) i n ≡ put s i (moved th c ev (progress s i))
-  event_refills = refills s i l th c ev e (by_its_event th c ev (progress s i).since e k told)
+  event_refills told = refills s i l th c ev (by_its_event th c ev (progress s i).since Refill k told)
 
-  pub event_empties : (n : ℕ) → n ≡ since_after th (progress s i).since → e ≡ 2
+  pub event_empties : Empty ≡ event_effect th ev (progress s i).since → (n : ℕ) → n ≡ since_after th (progress s i).since
       → since_stored (execution_stored (rest_stored s i 0) i 0) i n ≡ put s i (moved th c ev (progress s i))
-  event_empties = empties s i l th c ev e (by_its_event th c ev (progress s i).since e k told)
+  event_empties told = empties s i l th c ev (by_its_event th c ev (progress s i).since Empty k told)
 
-  pub event-leaves : (n : ℕ) → n ≡ since_after th (progress s i).since → (e ≡ 1 → ⊥) → (e ≡ 2 → ⊥)
+  pub event-leaves : Stay ≡ event_effect th ev (progress s i).since → (n : ℕ) → n ≡ since_after th (progress s i).since
       → since_stored s i n ≡ put s i (moved th c ev (progress s i))
-  event-leaves = leaves s i l th c ev e (by_its_event th c ev (progress s i).since e k told)
+  event-leaves told = leaves s i l th c ev (by_its_event th c ev (progress s i).since Stay k told)
 
 -- .. and of a periodic one.
-module _ (s : State) (i : ℕ) (l : i < length s.threads) (th : Thread) (c : ℕ) (ev : Bool) (e : ℕ) (k : th.kind ≡ 1 → ⊥)
-    (told : e ≡ clock_effect th c) where
-  abbrev known : e ≡ effect th c ev (progress s i).since
-  known = by_the_clock th c ev (progress s i).since e k told
-
-  pub clock_refills : (x : ℕ) → x ≡ execution_budget th → e ≡ 1
+module _ (s : State) (i : ℕ) (l : i < length s.threads) (th : Thread) (c : ℕ) (ev : Bool) (k : th.kind ≡ 1 → ⊥) where
+  pub clock_refills : Refill ≡ clock_effect th c → (x : ℕ) → x ≡ execution_budget th
       → since_stored (mark_stored (execution_stored (rest_stored s i th.budget) i x) i false) i 0 ≡ put s i (moved th c ev (progress s i))
-  clock_refills x b = refills s i l th c ev e known x 0 b (sym (since_stays th 0 k))
+  clock_refills told x b = refills s i l th c ev (by_the_clock th c ev (progress s i).since Refill k told) x 0 b (sym (since_stays th 0 k))
 
-  pub clock_empties : e ≡ 2 → execution_stored (rest_stored s i 0) i 0 ≡ put s i (moved th c ev (progress s i))
-  clock_empties = empties_still s i l th c ev e known (since_stays th (progress s i).since k)
+  pub clock_empties : Empty ≡ clock_effect th c → execution_stored (rest_stored s i 0) i 0 ≡ put s i (moved th c ev (progress s i))
+  clock_empties told = empties_still s i l th c ev (since_stays th (progress s i).since k) (by_the_clock th c ev (progress s i).since Empty k told)
 
-  pub clock_leaves : (e ≡ 1 → ⊥) → (e ≡ 2 → ⊥) → s ≡ put s i (moved th c ev (progress s i))
-  clock_leaves = leaves_still s i l th c ev e known (since_stays th (progress s i).since k)
+  pub clock_leaves : Stay ≡ clock_effect th c → s ≡ put s i (moved th c ev (progress s i))
+  clock_leaves told = leaves_still s i l th c ev (since_stays th (progress s i).since k) (by_the_clock th c ev (progress s i).since Stay k told)
 
 -- One thread more is changed.
 pub each_more : (f : ℕ → Progress → Progress) (i : ℕ) (y z : State) → z ≡ each_thread f i y → put z i (f i (progress z i)) ≡ each_thread f (i + 1) y

@@ -18,7 +18,6 @@ use Rattle.state.specs.Methods.{paid, pay, finish, counted, count}
 use Rattle.state.specs.Given.{Counted}
 use Rattle.state.specs.declared.Progress.{Progress}
 use Rattle.state.specs.declared.State.{State}
-use Rattle.order.specs.Order.{Below}
 use Rattle.walk.specs.Walk.{heard, runs, walked, decided, visit, chosen, walk}
 use Rattle.walk.specs.declared.Answer.TheVariants.{Ran, IdleFor, Idle}
 use Rattle.walk.specs.declared.Walked.{Walked}
@@ -119,7 +118,7 @@ pub data Going (m : List Mark) (bs is : List ℕ) (s : State) (a : ℕ) (whole :
   off : is ≡ [] → Traces whole s a → Going m bs is s a whole
 
 module _ (m : List Mark) (bs : List ℕ) (whole : Walked) where
-  going_end : (s : State) (a : ℕ) → Going m bs [] s a whole → Traces whole s a
+  pub going_end : (s : State) (a : ℕ) → Going m bs [] s a whole → Traces whole s a
   unfolding walk
   going_end s a (on e k w) = rw (e, ← w) (record { state = refl; byte = refl; ends = refl })
   going_end s a (off e t) = t
@@ -199,12 +198,5 @@ module _ (m : List Mark) (bs : List ℕ) (whole : Walked) (i : ℕ) (is : List �
   going_passed a p g e z = going_past m bs whole i is s a (rw e at z) g
 
 -- The end of the walk.
-module _ (m : List Mark) (bs : List ℕ) (whole : Walked) (s : State) (a n : ℕ) (l : List ℕ) where
-  pub going_over : Going m bs [] s a whole → Going m bs (slice n n l) s a whole
-  going_over g = rw (slice_empty n l) g
-
-  pub going_done : (r : ℕ) → r ≤ n → n ≤ r → Going m bs (slice r n l) s a whole → Traces whole s a
-  going_done r h k g = going_end m bs whole s a (rw (le_antisymm h k, slice_empty n l) at g)
-
-pub below_none : (c n : ℕ) (l : List ℕ) → Below c (slice n n l)
-below_none c n l = rw (slice_empty n l) tt
+pub going_done : (m : List Mark) (bs : List ℕ) (whole : Walked) (s : State) (a n : ℕ) (l : List ℕ) (r : ℕ) → r ≤ n → n ≤ r → Going m bs (slice r n l) s a whole → Traces whole s a
+going_done m bs whole s a n l r h k g = going_end m bs whole s a (rw (le_antisymm h k, slice_empty n l) at g)

@@ -53,16 +53,15 @@ fn masks_pass(t: Table, masks: &[u32]) -> bool
 {
     let all = events_of(t);
     for &mask in masks {
-        if mask & all != mask {
-            if !mask_passes(t, mask) {
-                return false;
-            }
+        if mask & all != mask && !mask_passes(t, mask) {
+            return false;
         }
     }
     true
 }
 
 // Whether the frame passes, if there is one.
+#[tactic(auto, unfolding(frame::specs::Mode::mode_ok))]
 pub fn mode_passes(t: Table, frame: Option<Frame>) -> bool
     ensures { result ≡ mode_ok t (mode_of frame) }
 {

@@ -12,6 +12,7 @@ use state::State;
 use table::Table;
 
 // Where no other number refuses a block that has no place to write, 16 does.
+#[tactic(auto, unfolding(crate::specs::Block::or_no_room, basis::specs::Tests::pick))]
 fn or_no_room(judged: Result<(), Refusal>) -> Refusal
     ensures { number result ≡ or_no_room (number_or_0 judged) }
 {
@@ -22,6 +23,7 @@ fn or_no_room(judged: Result<(), Refusal>) -> Refusal
 }
 
 // What a part's run gives, said of the whole record that it starts in at a place.
+#[tactic(auto, unfolding(crate::specs::Block::stop, basis::specs::Tests::pick))]
 fn behind(at: usize, end: Ended) -> Ended
     requires { at + next_of end.outcome < 18446744073709551616 }
     ensures { (result.state ≡ end.state) × (number_or_0 result.outcome ≡ number_or_0 end.outcome) × (next_of result.outcome ≡ the-stop (number_or_0 end.outcome) at (next_of end.outcome)) }

@@ -1,6 +1,6 @@
 -- How the code reads the comma form: the text is cut into numbers, the byte form judges them all at once, and the first fault of the
 -- two in the order of judging is given. That this comes to `sheet_reading` is the law `scan_reads`.
-use Rattle.std.specs.Prelude.{ℕ, zero, suc, ◌+◌, List, [], ◌∷◌, Bool, true, false, not, length, set, take, replicate, eqb, ltb, Option, None, Some, Result, Ok, Err}
+use Rattle.std.specs.Prelude.{ℕ, zero, suc, ◌+◌, List, [], ◌∷◌, Bool, true, false, not, length, get_or, set, take, replicate, eqb, ltb, Option, None, Some, Err, ◌≡◌}
 use Rattle.basis.specs.Tests.{pick, and}
 use Rattle.numeral.specs.Number.{encode_all}
 use Rattle.numeral.specs.Number.{Number}
@@ -8,9 +8,8 @@ use Rattle.numeral.specs.Number.{Value, Refused}
 use Rattle.flow.specs.Gap.{Triple}
 use Rattle.table.specs.declared.Table.{Table}
 use Rattle.basis.specs.Told.{Told, answered}
-use Rattle.basis.specs.Refusals.{number}
+use Rattle.basis.specs.Refusals.{number, values}
 use Rattle.basis.specs.declared.refusal.Refusal.{Refusal}
-use Rattle.basis.specs.declared.refusal.Refusal.TheVariants.{Intransitive as Gapped}
 use Rattle.reader.specs.declared.Fault.{Fault}
 use Rattle.reader.specs.Reader.{Read, accepted, refused_at, gapped_at, read_of}
 use Rattle.codec.specs.Judging.{wanted}
@@ -31,22 +30,19 @@ pub record Cutting : Type 0 where
   pub count : ℕ
   pub numbers : List ℕ
 
--- The number of a refusal, 0 where there is none.
-abbrev pub why_of : Option Refusal → ℕ
-why_of None = 0
-why_of (Some why) = number why
-
--- The number of what stopped the cutting, its place, where a field that is none stands next, and whether it is a number's end.
+-- The number of what stopped the cutting, 0 where nothing did.
 abbrev pub stop_why : Option Stop → ℕ
 stop_why None = 0
 stop_why (Some (NoNumber why)) = number why
 stop_why (Some (WrongEnd f)) = number f.why
 
+-- The place of what stopped the cutting: a field that is none stands next.
 abbrev pub stop_place : ℕ → Option Stop → ℕ
 stop_place next None = 0
 stop_place next (Some (NoNumber why)) = next
 stop_place next (Some (WrongEnd f)) = f.place
 
+-- Whether a number's end stopped the cutting.
 abbrev pub stop_ended : Option Stop → Bool
 stop_ended None = false
 stop_ended (Some (NoNumber why)) = false
@@ -114,6 +110,11 @@ fault_read f = read_of (Err f)
 abbrev pub own : Cutting → Read
 own c = refused_at c.refusal c.place
 
+-- A fault of the code is the text's own.
+pub record TellsOwn (c : Cutting) (f : Fault) : Type 0 where
+  pub why : number f.why ≡ c.refusal
+  pub place : f.place ≡ c.place
+
 -- The fault is the end of number k, the last one cut.
 unfoldable pub ends_wrong : Cutting → ℕ → Bool
 ends_wrong c k = and c.ended (and (not (eqb c.refusal 0)) (eqb c.count (k + 1)))
@@ -150,14 +151,10 @@ verdict_told Accepted = answered []
 verdict_told (No why place) = record { number = why; values = place ∷ [] }
 verdict_told (Intransitive place a b c) = record { number = 7; values = place ∷ a ∷ b ∷ c ∷ [] }
 
--- The verdict that an answer of the code is.
+-- The verdict that a refusal of the code with its place is.
 abbrev pub verdict_by : ℕ → Refusal → Verdict
-verdict_by place (Gapped a b c) = Intransitive place a b c
-verdict_by place why = No (number why) place
-
-abbrev pub verdict_of : Result Table Fault → Verdict
-verdict_of (Ok t) = Accepted
-verdict_of (Err f) = verdict_by f.place f.why
+verdict_by place why =
+    pick (eqb (number why) 7) (Intransitive place (get_or (values why) 0 0) (get_or (values why) 1 0) (get_or (values why) 2 0)) (No (number why) place)
 
 -- What a verdict of the byte form on the bytes bs comes to.
 abbrev pub joined : List ℕ → Cutting → List ℕ → Verdict → Table → Read

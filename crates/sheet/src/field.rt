@@ -1,5 +1,7 @@
 // A field: where it ends, and the number that it is.
-ghost use Rattle.std.specs.Prelude.{◌≡◌, true, ◌+◌, ◌<◌, length, drop, MatchResult};
+ghost use Rattle.std.specs.Prelude.{◌≡◌, true, ◌+◌, ◌<◌, ◌≤◌, length, drop, MatchResult};
+ghost use Rattle.std.specs.List.{list_all};
+ghost use Rattle.std.specs.Char.{is_ascii_digit};
 ghost use Rattle.basis.specs.Refusals.{number};
 ghost use Rattle.numeral.specs.Number.{given};
 ghost use Rattle.sheet.specs.Field.{field_ends as ends_there, field, all_digits, zero_first, value_from, judged_digits, field_at, Inside};
@@ -8,6 +10,7 @@ use basis::Refusal;
 use numeral::Numeral;
 
 // Whether a field ends where this text starts.
+#[tactic(auto, unfolding(crate::specs::Field::field_ends))]
 fn field_ends(rest: &[u8]) -> bool
     ensures { result ≡ ends_there rest.now }
 {
@@ -28,7 +31,7 @@ fn field_end(s: &[u8], at: usize) -> usize
 
 // Whether each character is a digit.
 fn is_digits(f: &[u8]) -> bool
-    ensures { result ≡ all_digits f.now }
+    ensures { result ≡ list_all is_ascii_digit f.now }
 {
     f.iter().all(|b| b.is_ascii_digit())
 }
@@ -43,7 +46,7 @@ fn is_padded(f: &[u8]) -> bool
 // The value of digits, however many.
 fn value_of(f: &[u8]) -> Result<u16, Refusal>
     requires { all_digits f.now ≡ true }
-    ensures { MatchResult result (λ v. v ≡ value_from 0 f.now) (λ why. (number why ≡ 3) × (65535 < value_from 0 f.now)) }
+    ensures { MatchResult result (λ v. (v ≡ value_from 0 f.now) × (v ≤ 65535)) (λ why. (number why ≡ 3) × (65535 < value_from 0 f.now)) }
 {
     let mut v = 0u32;
     for b in f {

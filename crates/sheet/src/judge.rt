@@ -1,10 +1,9 @@
 // The numbers of a text are judged as the byte form judges them, and what is objected to gets its place in the text.
-ghost use Rattle.std.specs.Prelude.{◌≡◌, ◌≢◌, ℕ, [], take, MatchOption};
-ghost use Rattle.basis.specs.Refusals.{number, values};
-ghost use Rattle.basis.specs.declared.refusal.Refusal.TheVariants.{Intransitive};
-ghost use Rattle.reader.specs.Reader.{read_of, accepted};
+ghost use Rattle.std.specs.Prelude.{◌≡◌, ◌≢◌, ◌<◌, ◌≤◌, true, false, length, take, ltb, count_by, MatchOption};
+ghost use Rattle.basis.specs.Refusals.{number};
+ghost use Rattle.reader.specs.Reader.{read_of, accepted, no_table};
 ghost use Rattle.sheet.specs.Sheet.{most_numbers, sheet_reading};
-ghost use Rattle.sheet.specs.Scan.{fault_read, cut_of, told_cut, scanned, numbers_in as count_in, cut_bytes, passed_by, objected_by, gapped_by};
+ghost use Rattle.sheet.specs.Scan.{fault_read, verdict_by, cut_of, told_cut, scanned, TellsOwn, ends_wrong, cut_bytes, passed_by, joined};
 
 use super::scan::scan;
 use super::{Cutting, MOST, Stop};
@@ -15,17 +14,20 @@ use writer::write_numbers;
 
 // How many numbers end in the first n bytes.
 fn numbers_in(bytes: &[u8], n: usize) -> usize
-    ensures { result ≡ count_in (take n bytes.now) }
+    ensures { (result ≡ count_by (λ b. ltb b 128) (take n bytes.now)) × (result ≤ length bytes.now) }
 {
     bytes.iter().take(n).filter(|b| **b < 128).count()
 }
 
 // The text's own fault.
 fn own_fault(cut: Cutting) -> Option<Fault>
-    ensures { MatchOption result ((cut_of cut).refusal ≡ 0) (λ f. (number f.why ≡ (cut_of cut).refusal) × (f.place ≡ (cut_of cut).place)) }
+    ensures { MatchOption result ((cut_of cut).refusal ≡ 0) (λ f. TellsOwn (cut_of cut) f) }
 {
     match cut.stop? {
-        Stop::NoNumber(why) => Some(Fault { why, place: cut.next }),
+        Stop::NoNumber(why) => Some(Fault {
+            why,
+            place: cut.next,
+        }),
         Stop::WrongEnd(fault) => Some(fault),
     }
 }
@@ -47,34 +49,44 @@ fn passed(s: &[u8], cut: Cutting, t: Table) -> Result<Table, Fault>
     Ok(t)
 }
 
-// A number is objected to: it is told with its place in the text. Where numbers are missing, it is the text's own fault.
-fn objected(s: &[u8], cut: Cutting, bytes: &[u8], fault: Fault) -> Fault
-    requires plain { values fault.why ≡ [] }
-    requires own { (cut_of cut).refusal ≢ 7 }
-    requires met { number fault.why ≡ 1 → (cut_of cut).refusal ≢ 0 }
-    ensures { fault_read result ≡ objected_by s.now (cut_of cut) bytes.now (number fault.why) fault.place }
+// The wrong end of number k, the last one cut.
+fn wrong_end(cut: Cutting, k: usize) -> Option<Fault>
+    requires { k < 9223372036854775808 }
+    ensures { MatchOption result (ends_wrong (cut_of cut) k ≡ false) (λ f. (ends_wrong (cut_of cut) k ≡ true) × TellsOwn (cut_of cut) f) }
 {
-    match (fault.why, own_fault(cut)) {
-        (Refusal::EndsEarly, Some(own)) => own,
-        _ => Fault {
-            why: fault.why,
-            place: scan(s, numbers_in(bytes, fault.place)).next,
-        },
+    if cut.count != k + 1 {
+        return None;
+    }
+    match cut.stop? {
+        Stop::NoNumber(_) => None,
+        Stop::WrongEnd(fault) => Some(fault),
     }
 }
 
-// A gap: a wrong end behind its last row goes before it.
-fn gapped(s: &[u8], cut: Cutting, bytes: &[u8], place: usize, why: Refusal) -> Fault
-    requires { (cut_of cut).refusal ≢ 7 }
-    ensures { (a b c : ℕ) → why ≡ Intransitive a b c → fault_read result ≡ gapped_by s.now (cut_of cut) bytes.now place (record { a = a; b = b; c = c }) }
+// What the byte form objects to, with its place in the text. The text's own fault goes before it where numbers are missing, and before a
+// gap where the last row's end is wrong.
+fn objected(s: &[u8], cut: Cutting, bytes: &[u8], fault: Fault) -> Fault
+    requires own { (cut_of cut).refusal ≢ 7 }
+    requires met { number fault.why ≡ 1 → (cut_of cut).refusal ≢ 0 }
+    ensures { fault_read result ≡ joined s.now (cut_of cut) bytes.now (verdict_by fault.place fault.why) no_table }
 {
-    let k = numbers_in(bytes, place);
-    match cut.stop {
-        Some(Stop::WrongEnd(own)) if cut.count == k + 1 => own,
-        _ => Fault {
-            why,
-            place: scan(s, k).next,
-        },
+    let k = numbers_in(bytes, fault.place);
+    match fault.why {
+        Refusal::EndsEarly => {
+            if let Some(own) = own_fault(cut) {
+                return own;
+            }
+        }
+        Refusal::Intransitive { a: _, b: _, c: _ } => {
+            if let Some(own) = wrong_end(cut, k) {
+                return own;
+            }
+        }
+        _ => {}
+    }
+    Fault {
+        why: fault.why,
+        place: scan(s, k).next,
     }
 }
 
@@ -85,10 +97,7 @@ fn judge_bytes(s: &[u8], cut: Cutting, bytes: &[u8]) -> Result<Table, Fault>
 {
     match codec::read(bytes) {
         Ok(t) => passed(s, cut, t),
-        Err(fault) => match fault.why {
-            Refusal::Intransitive { a: _, b: _, c: _ } => Err(gapped(s, cut, bytes, fault.place, fault.why)),
-            _ => Err(objected(s, cut, bytes, fault)),
-        },
+        Err(fault) => Err(objected(s, cut, bytes, fault)),
     }
 }
 
@@ -99,6 +108,7 @@ pub fn judge(s: &[u8], cut: Cutting) -> Result<Table, Fault>
 {
     let mut bytes = [0u8; 3 * MOST];
     let numbers = cut.numbers;
-    let end = write_numbers(&mut bytes, 0, &numbers[..cut.count]);
+    let n = cut.count;
+    let end = write_numbers(&mut bytes, 0, &numbers[..n]);
     judge_bytes(s, cut, &bytes[..end])
 }

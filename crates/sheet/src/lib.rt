@@ -34,6 +34,7 @@ pub enum Stop {
 }
 
 // A text that is being cut into numbers: what stopped it, the start of the next field, and the numbers so far.
+// The count stands beside the array, for memory is fixed here and no heap is used.
 #[derive(Clone, Copy, Debug, PartialEq, Eq)]
 pub struct Cutting {
     pub stop: Option<Stop>,

@@ -1,10 +1,11 @@
 // Cutting a text into numbers: after a fault nothing more is cut.
-ghost use Rattle.std.specs.Prelude.{◌≡◌, ◌+◌, ◌*◌, ◌≤◌, ◌<◌, length, take};
+ghost use Rattle.std.specs.Prelude.{◌≡◌, ℕ, ◌+◌, ◌*◌, ◌≤◌, ◌<◌, true, false, length, eqb};
+ghost use Rattle.basis.specs.Tests.{pick};
 ghost use Rattle.table.specs.Threads.{fields_in as the-fields-in};
 ghost use Rattle.codec.specs.Judging.{wanted};
 ghost use Rattle.sheet.specs.Text.{line_over};
 ghost use Rattle.sheet.specs.Sheet.{end_fault, behind as the-place-behind};
-ghost use Rattle.sheet.specs.Scan.{cut_of, told_cut, why_of, number_cut, goes_on as to-go-on, turned, scanned};
+ghost use Rattle.sheet.specs.Scan.{stop_why, stop_place, stop_ended, cut_of, told_cut, number_cut, goes_on as to-go-on, turned, scanned};
 
 use super::field::read_field;
 use super::{Cutting, MOST, Stop};
@@ -15,61 +16,58 @@ use table::fields_in;
 
 // How many fields a thread has in a version; 255 is no version either, and stands for those above.
 fn width(version: u16) -> usize
-    ensures { (result ≡ the-fields-in version) × (result ≤ 8) }
+    ensures { (result ≡ the-fields-in version) × (result ≤ 8) × (1 ≤ result) }
 {
-    fields_in(u8::try_from(version).unwrap_or(255)) as usize
+    fields_in(version.min(255) as u8) as usize
 }
 
 // How many numbers follow the first three.
 fn due(version: u16, domains: u16, threads: u16) -> usize
     ensures { result ≡ domains + the-fields-in version * threads }
 {
-    let w = width(version);
-    domains as usize + w * threads as usize
+    domains as usize + width(version) * threads as usize
 }
 
-// Whether another number is wanted behind the first n.
-fn is_wanted(numbers: [u16; MOST], n: usize) -> bool
-    requires { n ≤ 275 }
-    ensures { result ≡ wanted (take n numbers) }
+// Whether another number is wanted behind these.
+#[tactic(auto, unfolding(codec::specs::Judging::wanted))]
+fn is_wanted(numbers: &[u16]) -> bool
+    ensures { result ≡ wanted numbers.now }
 {
-    if n < 3 {
-        return true;
+    match numbers {
+        [version, domains, threads, rest @ ..] => rest.len() < due(*version, *domains, *threads),
+        _ => true,
     }
-    n - 3 < due(numbers[0], numbers[1], numbers[2])
 }
 
-// Whether a line ends behind the first n numbers.
-fn is_line_over(numbers: [u16; MOST], n: usize) -> bool
-    requires { n ≤ 275 }
-    ensures { result ≡ line_over (take n numbers) }
+// Whether a line ends behind these numbers.
+#[tactic(auto, unfolding(crate::specs::Text::line_over))]
+fn is_line_over(numbers: &[u16]) -> bool
+    ensures { result ≡ line_over numbers.now }
 {
-    if n < 3 {
-        return false;
+    match numbers {
+        [_, _, _] => true,
+        [version, domains, _, rest @ ..] => {
+            let d = *domains as usize;
+            d <= rest.len() && (rest.len() - d) % width(*version) == 0
+        }
+        _ => false,
     }
-    if n == 3 {
-        return true;
-    }
-    let w = width(numbers[0]);
-    let d = numbers[1] as usize;
-    let m = n - 3;
-    if m < d {
-        return false;
-    }
-    (m - d) % w == 0
 }
 
-// Why the end of a field at a place is refused, if it is not as due.
+// What stops the cutting at the end of a field, if that end is not as due.
 #[tactic(auto, unfolding(crate::specs::Sheet::end_fault, basis::specs::Tests::pick))]
-fn end_refusal(s: &[u8], at: usize, last: bool) -> Option<Refusal>
+fn end_stop(s: &[u8], at: usize, last: bool) -> Option<Stop>
     requires { at < length s.now }
-    ensures { why_of result ≡ end_fault s.now at last }
+    ensures why { stop_why result ≡ end_fault s.now at last }
+    ensures place { (next : ℕ) → stop_place next result ≡ pick (eqb (end_fault s.now at last) 0) 0 at }
+    ensures ended { stop_ended result ≡ pick (eqb (end_fault s.now at last) 0) false true }
 {
-    match (s[at] == b',', last) {
-        (true, true) => Some(Refusal::Extra),
-        (false, false) => Some(Refusal::EndsEarly),
-        _ => None,
-    }
+    let why = match (s[at] == b',', last) {
+        (true, true) => Refusal::Extra,
+        (false, false) => Refusal::EndsEarly,
+        _ => return None,
+    };
+    Some(Stop::WrongEnd(Fault { why, place: at }))
 }
 
 // The place behind the end of a field.
@@ -92,9 +90,9 @@ fn cut_number(s: &[u8], c: Cutting, v: u16, end: usize) -> Cutting
     let mut numbers = c.numbers;
     numbers[c.count] = v;
     let count = c.count + 1;
-    let last = is_line_over(numbers, count);
+    let last = is_line_over(&numbers[..count]);
     Cutting {
-        stop: end_refusal(s, end, last).map(|why| Stop::WrongEnd(Fault { why, place: end })),
+        stop: end_stop(s, end, last),
         next: behind(end, last),
         count,
         numbers,
@@ -106,7 +104,7 @@ fn cut_number(s: &[u8], c: Cutting, v: u16, end: usize) -> Cutting
 fn goes_on(c: Cutting) -> bool
     ensures { result ≡ to-go-on (cut_of c) }
 {
-    c.stop.is_none() && c.count < MOST && is_wanted(c.numbers, c.count)
+    c.stop.is_none() && c.count < MOST && is_wanted(&c.numbers[..c.count])
 }
 
 // One field more.

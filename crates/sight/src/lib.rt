@@ -17,6 +17,7 @@ use views::seen_threads;
 pub type View = Option<u8>;
 
 // What a domain is shown of an answer; refuses with 11, 15.
+#[tactic(auto, using(table::proofs::LegalLaws::legal_small), unfolding(crate::specs::Shown::showing, basis::specs::Tests::pick))]
 pub fn shown(t: Table, domain: u8, answer: Answer) -> Result<View, Refusal>
     ensures { told result ≡ showing t domain answer }
 {
@@ -30,6 +31,7 @@ pub fn shown(t: Table, domain: u8, answer: Answer) -> Result<View, Refusal>
 }
 
 // What a domain is shown of a state, the progress of each thread that it may see and zeros for the others; refuses with 11, 12, 15.
+#[tactic(auto, using(table::proofs::LegalLaws::legal_small), unfolding(crate::specs::Shown::showing_state, crate::specs::Shown::threads_shown, basis::specs::Tests::pick))]
 pub fn shown_state(t: Table, s: State, domain: u8) -> Result<[Progress; 32], Refusal>
     ensures { (told_state result ≡ showing_state t s domain) × (given result ≡ threads_shown t s domain) }
 {

@@ -9,6 +9,7 @@ use table::Table;
 use walk::Answer;
 
 // Whether i is a thread of the table whose domain may flow to d.
+#[tactic(auto, unfolding(crate::specs::Shown::visible, table::specs::Mark::seen_by))]
 pub fn is_visible(t: Table, d: u8, i: u8) -> bool
     requires { t.count ≤ 32 }
     ensures { result ≡ visible t d i }
@@ -22,6 +23,7 @@ pub fn is_visible(t: Table, d: u8, i: u8) -> bool
 }
 
 // The thread that ran, if d may see it, or a gap.
+#[tactic(auto, unfolding(crate::specs::Shown::view, basis::specs::Tests::pick))]
 pub fn view(t: Table, d: u8, a: Answer) -> View
     requires { t.count ≤ 32 }
     ensures { told_view result ≡ the_view t d a }
@@ -38,6 +40,7 @@ pub fn view(t: Table, d: u8, a: Answer) -> View
     }
 }
 
+#[tactic(auto, unfolding(crate::specs::Shown::seen_progress, basis::specs::Tests::pick))]
 fn seen(t: Table, d: u8, s: State, i: u8) -> Progress
     requires { (t.count ≤ 32) × (i < 32) }
     ensures { result ≡ seen_progress t d s i }

@@ -19,11 +19,12 @@ pub record Rows : Type 0 where
   pub why : ℕ
   pub place : ℕ
 
--- The number of a fault, and its place; 0 where there is none.
+-- The number of a fault, 0 where there is none.
 abbrev pub why_of : Option Fault → ℕ
 why_of None = 0
 why_of (Some f) = number f.why
 
+-- The place of a fault, 0 where there is none.
 abbrev pub place_of : Option Fault → ℕ
 place_of None = 0
 place_of (Some f) = f.place

@@ -1,5 +1,5 @@
 // A field, character by character.
-ghost use Rattle.std.specs.Prelude.{◌≡◌, drop};
+ghost use Rattle.std.specs.Prelude.{◌≡◌, drop, eqb};
 ghost use Rattle.typed.specs.Fields.{field_of, end_of, onward as the-next, grown as the-grown, blank as the-blank, text_start, begun, moved, taken, settled, held, ended_by, fed, closed, read_on, reading_of};
 
 use super::{End, Field, Reading, Size};
@@ -136,12 +136,19 @@ pub fn feed(f: Field, b: u8) -> Field
     }
 }
 
+// Whether a line's end ended the field.
+pub fn ends_line(f: Field) -> bool
+    ensures { result ≡ eqb (field_of f).ended 2 }
+{
+    matches!(f.ended, Some(End::Line))
+}
+
 // The end of the text.
 #[tactic(auto, unfolding(crate::specs::Fields::closed, basis::specs::Tests::pick))]
 pub fn close(f: Field) -> Field
     ensures { field_of result ≡ closed (field_of f) }
 {
-    if f.ended == Some(End::Line) {
+    if ends_line(f) {
         return f;
     }
     end(settle(begin(f)), End::Line)

@@ -3,7 +3,7 @@ ghost use Rattle.std.specs.Prelude.{◌≡◌, Some};
 ghost use Rattle.typed.specs.Fields.{field_of};
 ghost use Rattle.typed.specs.FrameLines.{windows_of, no_windows, added, with_domain, with_window, spoilt, window_taken, window_character, windows_fed, windows_read, windows_closed};
 
-use super::characters::{close, feed, new_text};
+use super::characters::{close, ends_line, feed, new_text};
 use super::lists::{one_more, stored};
 use super::numbers::is_plain;
 use super::{End, Field, Windows};
@@ -89,7 +89,7 @@ fn take_ended(w: Windows, f: Field) -> Windows
     }
 }
 
-// The line's field, one character further.
+// The line's field, one character further; rows have the like (`row_line.rt` says why there is no trait).
 #[tactic(auto, unfolding(crate::specs::FrameLines::window_character, crate::specs::FrameLines::with_field, basis::specs::Tests::pick))]
 fn take_field(w: Windows, f: Field) -> Windows
     ensures { windows_of result ≡ window_character (windows_of w) (field_of f) }
@@ -113,10 +113,13 @@ pub fn feed_windows(w: Windows, b: u8) -> Windows
 
 // The characters of a part of the text.
 #[tactic(auto, using(crate::proofs::LineLaws::windows_next, crate::proofs::LineLaws::windows_end))]
-pub fn read_windows(w: Windows, part: &[u8]) -> Windows
+pub fn read_windows(mut w: Windows, part: &[u8]) -> Windows
     ensures { windows_of result ≡ windows_read (windows_of w) part.now }
 {
-    part.iter().fold(w, |w, b| feed_windows(w, *b))
+    for b in part {
+        w = feed_windows(w, *b);
+    }
+    w
 }
 
 // The end of the text: the last line may lack its end.
@@ -124,7 +127,7 @@ pub fn read_windows(w: Windows, part: &[u8]) -> Windows
 pub fn close_windows(w: Windows) -> Windows
     ensures { windows_of result ≡ windows_closed (windows_of w) }
 {
-    if w.bad || w.field.ended == Some(End::Line) {
+    if w.bad || ends_line(w.field) {
         return w;
     }
     take_ended(w, close(w.field))

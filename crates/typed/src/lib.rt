@@ -59,6 +59,7 @@ pub struct Fault {
 }
 
 // A line of rows so far: its values (17 counts for more than 16), the place of each, whether the line is over, and the first fault.
+// The values stand apart from the places, for `mend` takes a slice of values, and no heap is used.
 #[derive(Clone, Copy, Debug, PartialEq, Eq)]
 pub struct Rows {
     pub field: Field,

@@ -6,13 +6,14 @@ ghost use Rattle.basis.specs.Tests.{pick};
 pub fn stored<T: Copy, const N: usize>(mut xs: [T; N], n: u8, x: T) -> [T; N]
     ensures { result ≡ set xs n x }
 {
-    if let Some(place) = xs.get_mut(n as usize) {
-        *place = x;
+    if (n as usize) < N {
+        xs[n as usize] = x;
     }
     xs
 }
 
 // One more, up to the largest count that is told.
+#[tactic(auto, unfolding(basis::specs::Tests::pick))]
 pub fn one_more(n: u8, most: u8) -> u8
     ensures { result ≡ pick (ltb n most) (n + 1) n }
 {

@@ -3,8 +3,8 @@ ghost use Rattle.std.specs.Prelude.{◌≡◌};
 ghost use Rattle.typed.specs.Fields.{field_of, blank as the-blank};
 ghost use Rattle.typed.specs.Numbers.{is_plain as a-plain, is_signed as a_signed, minus, signed_of as signed-given, argument_of, signed, command, spelt, argument, signed_word};
 
-use super::characters::{blank, take};
-use super::{End, Field, Size};
+use super::characters::{blank, ends_line, take};
+use super::{Field, Size};
 
 // Whether a minus sign stands first.
 fn is_negative(f: Field) -> bool
@@ -46,7 +46,7 @@ fn sign(f: Field) -> Option<i32>
 pub fn command_of(f: Field) -> Option<i32>
     ensures { signed-given result ≡ command (field_of f) }
 {
-    if f.ended == Some(End::Line) {
+    if ends_line(f) {
         return sign(f);
     }
     None
@@ -57,7 +57,11 @@ pub fn command_of(f: Field) -> Option<i32>
 fn spell(word: &[u8]) -> Field
     ensures { field_of result ≡ spelt (the-blank 0) word.now }
 {
-    word.iter().fold(blank(0), |f, b| take(f, *b))
+    let mut f = blank(0);
+    for b in word {
+        f = take(f, *b);
+    }
+    f
 }
 
 // A word as a number.

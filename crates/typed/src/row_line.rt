@@ -2,12 +2,12 @@
 ghost use Rattle.std.specs.Prelude.{◌≡◌};
 ghost use Rattle.basis.specs.Refusals.{number};
 ghost use Rattle.typed.specs.Fields.{field_of};
-ghost use Rattle.typed.specs.RowLine.{rows_of, row_given, unended, no_rows, refused_at, row_added, row_taken, row_character, rows_fed, rows_closed, rows_read};
+ghost use Rattle.typed.specs.RowLine.{rows_of, padded, row_given, unended, no_rows, refused_at, row_added, row_taken, row_character, rows_fed, rows_closed, rows_read};
 
-use super::characters::{feed, new_text};
+use super::characters::{ends_line, feed, new_text};
 use super::lists::{one_more, stored};
 use super::numbers::is_plain;
-use super::{End, Fault, Field, Rows, Size};
+use super::{Fault, Field, Rows, Size};
 use basis::Refusal;
 
 // The start of the line.
@@ -24,16 +24,23 @@ pub fn new_rows() -> Rows
     }
 }
 
-// The row that an ended field is: no zero stands before another character.
+// Whether a zero stands before another character.
+#[tactic(auto, unfolding(crate::specs::RowLine::padded))]
+fn is_padded(f: Field) -> bool
+    ensures { result ≡ padded (field_of f) }
+{
+    matches!(f.size, Size::More(b'0'))
+}
+
+// The row that an ended field is, or why it is refused.
+#[tactic(auto, unfolding(crate::specs::RowLine::fault, basis::specs::Tests::pick))]
 fn row_of(f: Field) -> Result<u16, Refusal>
     ensures { row_given result (field_of f) }
 {
-    match f.size {
-        Size::Empty => return Err(Refusal::EndsEarly),
-        Size::More(b'0') => return Err(Refusal::NotShortest),
-        _ => {}
+    if f.size == Size::Empty {
+        return Err(Refusal::EndsEarly);
     }
-    if !is_plain(f) {
+    if is_padded(f) || !is_plain(f) {
         return Err(Refusal::NotShortest);
     }
     if 65535 < f.value {
@@ -53,6 +60,7 @@ fn refuse(r: Rows, why: Refusal, place: u64) -> Rows
 }
 
 // A row more, with the place of its field.
+#[tactic(auto, unfolding(crate::specs::RowLine::row_added, crate::specs::RowLine::counted))]
 fn add_row(r: Rows, f: Field, v: u16) -> Rows
     requires { v ≡ f.value }
     ensures { rows_of result ≡ row_added (rows_of r) (field_of f) }
@@ -62,7 +70,7 @@ fn add_row(r: Rows, f: Field, v: u16) -> Rows
         count: one_more(r.count, 17),
         rows: stored(r.rows, r.count, v),
         starts: stored(r.starts, r.count, f.start),
-        done: f.ended == Some(End::Line),
+        done: ends_line(f),
         ..r
     }
 }
@@ -77,7 +85,7 @@ fn take_row(r: Rows, f: Field) -> Rows
     }
 }
 
-// The line's field, one character further.
+// The line's field, one character further. Windows have the like: a trait of both, with its laws, would be longer than the two functions.
 #[tactic(auto, unfolding(crate::specs::RowLine::row_character, basis::specs::Tests::pick, crate::specs::RowLine::with_field))]
 fn take_field(r: Rows, f: Field) -> Rows
     ensures { rows_of result ≡ row_character (rows_of r) (field_of f) }
@@ -104,10 +112,13 @@ pub fn feed_rows(r: Rows, b: u8) -> Rows
 
 // The characters of a part of the text.
 #[tactic(auto, using(crate::proofs::LineLaws::rows_next, crate::proofs::LineLaws::rows_end))]
-pub fn read_rows(r: Rows, part: &[u8]) -> Rows
+pub fn read_rows(mut r: Rows, part: &[u8]) -> Rows
     ensures { rows_of result ≡ rows_read (rows_of r) part.now }
 {
-    part.iter().fold(r, |r, b| feed_rows(r, *b))
+    for b in part {
+        r = feed_rows(r, *b);
+    }
+    r
 }
 
 // The place of the field that the text ends in.

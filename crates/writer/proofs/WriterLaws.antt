@@ -1,5 +1,5 @@
 -- Writing: runs of bytes put one after the other join into one run, bytes outside it stay, and the answer of `write` and its buffer are unique.
-use Prim.Native.Nat.{ℕ, suc, ◌+◌, ◌-◌, ◌≤◌, ◌<◌}
+use Prim.Native.Nat.{ℕ, zero, suc, ◌+◌, ◌-◌, ◌≤◌, ◌<◌}
 use mathlib.Core.Path.{◌≡◌, refl, ap, sym, ◌∙◌}
 use mathlib.Core.Bool.{true, false}
 use mathlib.Core.List.{List, [], ◌∷◌, ◌++◌, append_assoc}
@@ -11,16 +11,18 @@ use lib.ListN.{length, get_or, set, take, drop, length-append, length-drop, get_
 use lib.Seq.{sets, sets-eq, length-sets, take-suc, take_all, length-take-le, take_at, drop_at, get_or-take, get_or-drop, get_or-append-add}
 use lib.Dec.{leb}
 use borrow.Author.Tests.{le-leb, lt-leb, leb-true}
+use Rattle.std.specs.Prelude.{Result}
 use Rattle.basis.specs.Tests.{pick}
 use Rattle.basis.specs.Search.{listed}
 use Rattle.basis.specs.Told.{Told, answered, refused}
 use Rattle.basis.proofs.TestLaws.{by_test}
-use Rattle.table.specs.Threads.{none}
+use Rattle.table.specs.Threads.{none, fields, fields_in}
 use Rattle.table.specs.Legal.{legal}
+use Rattle.table.proofs.RangeLaws.{fields_in-most}
 use Rattle.table.specs.declared.Table.{Table}
 use Rattle.table.specs.declared.Thread.{Thread}
-use Rattle.writer.specs.declared.Writing.{Writing}
-use Rattle.writer.specs.declared.Writing.TheVariants.{Written, NotLegal, NoRoom}
+use Rattle.basis.specs.declared.refusal.Refusal.{Refusal}
+use Rattle.basis.proofs.RefusalLaws.{number-apart}
 use Rattle.numeral.specs.Number.{encode, encode_all}
 use Rattle.writer.specs.Format.{row_numbers, written_fields, thread_numbers, numbers, bytes}
 use Rattle.writer.specs.Buffer.{Room, Put}
@@ -81,7 +83,7 @@ numbers_room vs i h =
     rw (take_all (length vs) vs (omega arith)) at
     (grown_room (λ i. encode_all (take i vs)) (λ i. encode (get_or vs i 0)) (length vs) (numbers-next vs) i h)
 
-pub rows_next : (rows : List ℕ) (i : ℕ) → encode_all (row_numbers rows (i + 1)) ≡ encode_all (row_numbers rows i) ++ encode (get_or rows i 0)
+rows_next : (rows : List ℕ) (i : ℕ) → encode_all (row_numbers rows (i + 1)) ≡ encode_all (row_numbers rows i) ++ encode (get_or rows i 0)
 unfolding row_numbers listed
 rows_next rows i = rw add-one (encode_all-last (row_numbers rows i) (get_or rows i 0))
 
@@ -89,8 +91,11 @@ pub rows-length : (rows : List ℕ) (i : ℕ) →
     length (encode_all (row_numbers rows (i + 1))) ≡ length (encode_all (row_numbers rows i)) + length (encode (get_or rows i 0))
 rows-length rows i = ap length (rows_next rows i) ∙ length-append (encode_all (row_numbers rows i)) (encode (get_or rows i 0))
 
-pub rows_room : (rows : List ℕ) (n i : ℕ) → i < n → length (encode_all (row_numbers rows i) ++ encode (get_or rows i 0)) ≤ length (encode_all (row_numbers rows n))
-rows_room rows n = grown_room (λ i. encode_all (row_numbers rows i)) (λ i. encode (get_or rows i 0)) n (λ i h. rows_next rows i)
+-- The rows that are written stand first among all rows.
+pub rows-take : (rows : List ℕ) (n : ℕ) → n ≤ length rows → row_numbers rows n ≡ take n rows
+unfolding row_numbers listed
+rows-take rows zero h = refl
+rows-take rows (suc n) h = rw (take-suc rows n 0 h) (ap (λ (xs : List ℕ). xs ++ (get_or rows n 0 ∷ [])) (rows-take rows n (omega arith)))
 
 pub threads_next : (v : ℕ) (ths : List Thread) (i : ℕ) →
     encode_all (thread_numbers v ths (i + 1)) ≡ encode_all (thread_numbers v ths i) ++ encode_all (written_fields v (get_or ths i none))
@@ -105,6 +110,26 @@ pub threads_room : (v : ℕ) (ths : List Thread) (n i : ℕ) → i < n →
     length (encode_all (thread_numbers v ths i) ++ encode_all (written_fields v (get_or ths i none))) ≤ length (encode_all (thread_numbers v ths n))
 threads_room v ths n =
     grown_room (λ i. encode_all (thread_numbers v ths i)) (λ i. encode_all (written_fields v (get_or ths i none))) n (λ i h. threads_next v ths i)
+
+-- A thread has as many fields as are written.
+pub enough : (th : Thread) (v n : ℕ) (vs : List ℕ) → vs ≡ fields th → n ≡ fields_in v → n ≤ length vs
+enough th v n vs e f = rw (e, f) (fields_in-most v)
+
+-- The first n threads have the numbers that all have up to n.
+pub threads-take : (v : ℕ) (ths : List Thread) (n m : ℕ) → m ≤ n → thread_numbers v (take n ths) m ≡ thread_numbers v ths m
+unfolding thread_numbers
+threads-take v ths n zero h = refl
+threads-take v ths n (suc m) h = rw (threads-take v ths n m (omega arith), get_or-take n ths m none h)
+
+module _ (v : ℕ) (ths : List Thread) (n : ℕ) (h : n ≤ length ths) (i : ℕ) where
+  pub first_room : i < length (take n ths) →
+      length (encode_all (thread_numbers v (take n ths) i) ++ encode_all (written_fields v (get_or (take n ths) i none))) ≤ length (encode_all (thread_numbers v ths n))
+  first_room k = rw (threads-take v ths n n (omega arith)) at (threads_room v (take n ths) n i (omega (arith, length-take-le n ths h)))
+
+  pub first_all : i ≤ length (take n ths) → length (take n ths) ≤ i → thread_numbers v (take n ths) i ≡ thread_numbers v ths n
+  first_all k l =
+      let e : i ≡ n = omega (arith, length-take-le n ths h) in
+      rw e (threads-take v ths n n (omega arith))
 
 -- The three parts in which the bytes of a table are written.
 abbrev pub head_bytes : Table → List ℕ
@@ -196,19 +221,7 @@ refused_stays b at t h =
     by_test (legal t)
     (λ l. by_test (leb (at + length (bytes t)) (length b)) (λ m. let z : 0 < 0 = rw (l, m) at h in absurd (omega arith)) (λ m. rw (l, m))) (λ l. rw l)
 
--- The answer of the code has one reading.
-pub told_injective : (a b : Writing) → told a ≡ told b → a ≡ b
-told_injective (Written n) (Written m) e = let v = ap (λ (t : Told). t.values) e in cc
-told_injective (Written n) NotLegal e = let v = ap (λ (t : Told). t.number) e in absurd (omega arith)
-told_injective (Written n) NoRoom e = let v = ap (λ (t : Told). t.number) e in absurd (omega arith)
-told_injective NotLegal (Written m) e = let v = ap (λ (t : Told). t.number) e in absurd (omega arith)
-told_injective NotLegal NotLegal e = refl
-told_injective NotLegal NoRoom e = let v = ap (λ (t : Told). t.number) e in absurd (omega arith)
-told_injective NoRoom (Written m) e = let v = ap (λ (t : Told). t.number) e in absurd (omega arith)
-told_injective NoRoom NotLegal e = let v = ap (λ (t : Told). t.number) e in absurd (omega arith)
-told_injective NoRoom NoRoom e = refl
-
 -- No second answer and no second final buffer fit `write`.
-pub write_unique : (t : Table) (b : List ℕ) (at : ℕ) (a a' : Writing) (c c' : List ℕ) →
+pub write_unique : (t : Table) (b : List ℕ) (at : ℕ) (a a' : Result ℕ Refusal) (c c' : List ℕ) →
     (told a ≡ writing b at t) × (c ≡ written b at t) → (told a' ≡ writing b at t) × (c' ≡ written b at t) → (a ≡ a') × (c ≡ c')
-write_unique t b at a a' c c' p q = (told_injective a a' (p.0 ∙ sym q.0), p.1 ∙ sym q.1)
+write_unique t b at a a' c c' p q = (number-apart a a' (p.0 ∙ sym q.0), p.1 ∙ sym q.1)

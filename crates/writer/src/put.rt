@@ -1,7 +1,7 @@
 // Putting a table's numbers into a lent buffer, one after the other.
 ghost use Rattle.std.specs.Prelude.{◌≡◌, ◌≤◌};
 ghost use Rattle.numeral.specs.Number.{encode, encode_all};
-ghost use Rattle.writer.specs.Format.{row_numbers, written_fields, thread_numbers, bytes};
+ghost use Rattle.writer.specs.Format.{written_fields, thread_numbers, bytes};
 ghost use Rattle.writer.specs.Buffer.{Room, Put};
 
 use table::{Table, Thread, fields, fields_in};
@@ -31,19 +31,8 @@ pub fn write_numbers(buf: &mut [u8], at: usize, vs: &[u16]) -> usize
     ensures { Put buf.old at buf.new result (encode_all vs.now) }
 {
     let mut k = at;
-    for i in 0..vs.len() {
-        k = write_number(buf, k, vs[i]);
-    }
-    k
-}
-
-fn write_rows(buf: &mut [u8], at: usize, rows: [u16; 16], n: u8) -> usize
-    requires { (n ≤ 16) × Room buf.old at (encode_all (row_numbers rows n)) }
-    ensures { Put buf.old at buf.new result (encode_all (row_numbers rows n)) }
-{
-    let mut k = at;
-    for i in 0..n {
-        k = write_number(buf, k, rows[i as usize]);
+    for v in vs {
+        k = write_number(buf, k, *v);
     }
     k
 }
@@ -62,9 +51,8 @@ fn write_threads(buf: &mut [u8], at: usize, version: u8, threads: [Thread; 32], 
     ensures { Put buf.old at buf.new result (encode_all (thread_numbers version threads n)) }
 {
     let mut k = at;
-    for i in 0..n {
-        let th = threads[i as usize];
-        k = write_thread(buf, k, version, th);
+    for th in &threads[..n as usize] {
+        k = write_thread(buf, k, version, *th);
     }
     k
 }
@@ -76,7 +64,7 @@ pub fn put_table(buf: &mut [u8], at: usize, t: Table) -> usize
     let head = [t.version as u16, t.domains as u16, t.count as u16];
     let a = write_numbers(buf, at, &head);
     let rows = t.rows;
-    let b = write_rows(buf, a, rows, t.domains);
+    let b = write_numbers(buf, a, &rows[..t.domains as usize]);
     let threads = t.threads;
     write_threads(buf, b, t.version, threads, t.count)
 }

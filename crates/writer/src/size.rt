@@ -2,7 +2,7 @@
 ghost use Rattle.std.specs.Prelude.{◌≡◌, ◌*◌, ◌≤◌, length};
 ghost use Rattle.table.specs.Threads.{field_count};
 ghost use Rattle.numeral.specs.Number.{encode, encode_all};
-ghost use Rattle.writer.specs.Format.{row_numbers, written_fields, thread_numbers, bytes};
+ghost use Rattle.writer.specs.Format.{written_fields, thread_numbers, bytes};
 
 use table::{Table, Thread, fields, fields_in};
 
@@ -18,26 +18,24 @@ fn number_size(v: u16) -> usize
     3
 }
 
-fn thread_size(version: u8, th: Thread) -> usize
-    ensures { (result ≡ length (encode_all (written_fields version th))) × (result ≤ 3 * field_count) }
+// How many bytes some numbers take: the rows or the fields of a thread, 16 at most.
+fn numbers_size(vs: &[u16]) -> usize
+    requires { length vs.now ≤ 16 }
+    ensures { (result ≡ length (encode_all vs.now)) × (result ≤ 3 * length vs.now) }
 {
-    let vs = fields(th);
     let mut k = 0;
-    for i in 0..fields_in(version) as usize {
-        k += number_size(vs[i]);
+    for v in vs {
+        k += number_size(*v);
     }
     k
 }
 
-fn rows_size(rows: [u16; 16], n: u8) -> usize
-    requires { n ≤ 16 }
-    ensures { (result ≡ length (encode_all (row_numbers rows n))) × (result ≤ 48) }
+fn thread_size(version: u8, th: Thread) -> usize
+    ensures { (result ≡ length (encode_all (written_fields version th))) × (result ≤ 3 * field_count) }
 {
-    let mut k = 0;
-    for i in 0..n {
-        k += number_size(rows[i as usize]);
-    }
-    k
+    let vs = fields(th);
+    let n = fields_in(version) as usize;
+    numbers_size(&vs[..n])
 }
 
 fn threads_size(version: u8, threads: [Thread; 32], n: u8) -> usize
@@ -45,9 +43,8 @@ fn threads_size(version: u8, threads: [Thread; 32], n: u8) -> usize
     ensures { (result ≡ length (encode_all (thread_numbers version threads n))) × (result ≤ 32 * (3 * field_count)) }
 {
     let mut k = 0;
-    for i in 0..n {
-        let th = threads[i as usize];
-        k += thread_size(version, th);
+    for th in &threads[..n as usize] {
+        k += thread_size(version, *th);
     }
     k
 }
@@ -57,7 +54,7 @@ pub fn table_size(t: Table) -> usize
     ensures { result ≡ length (bytes t) }
 {
     let rows = t.rows;
-    let a = rows_size(rows, t.domains);
+    let a = numbers_size(&rows[..t.domains as usize]);
     let threads = t.threads;
     let b = threads_size(t.version, threads, t.count);
     3 + a + b

@@ -1,29 +1,16 @@
-use Rattle.admission.specs.Worst.{worst_given}
-use Rattle.table.specs.Legal.{legal, Sized}
-use Rattle.table.proofs.LegalLaws.{legal_sound}
+use Rattle.std.proofs.lemmas.Result.{err_from_is_err_and}
 use Rattle.basis.specs.Tests.{pick}
-use Rattle.basis.proofs.ListLaws.{long_of}
-use mathlib.Core.Bool.{true}
-use mathlib.Core.Path.{◌≡◌, sym, ◌∙◌}
-use borrow.Author.Rules.{rules}
+use Rattle.admission.specs.Worst.{worst_given}
+use Rattle.admission.proofs.AskedLaws.{lawful, not_lawful}
 use Rattle.admission.proofs.worst_count.Goals as goal
-use Rattle.admission.proofs.worst_count.Goals.{Else-not-legal}
 
--- A table's sizes are its type's.
-sized : (c : Else-not-legal) → Sized c.args.t
-sized c = record { rows = search (rules, long_of); threads = search (rules, long_of) }
-
--- What the test told, once it was passed.
-lawful : (c : Else-not-legal) → legal c.args.t ≡ true
-lawful c = sym c.legal.ensures ∙ c.if-not-legal.false
-
-pub returns-then-not-legal : goal.returns-then-not-legal
+pub returns-in_err-lawful : goal.returns-in_err-lawful
 unfolding worst_given pick
-returns-then-not-legal c = rw (sym c.legal.ensures ∙ c.if-not-legal.true)
-
-pub worst_of-requires : goal.worst_of-requires
-worst_of-requires c = legal_sound _ (sized c) (lawful c)
+returns-in_err-lawful c =
+    let p = err_from_is_err_and c.from_residual.result c.from_residual.ensures.1 in
+    let r = not_lawful _ _ c.in_err-lawful.ensures.told in
+    rw (p.1, p.2) (rw r.0 r.1)
 
 pub returns : goal.returns
 unfolding worst_given pick
-returns c = rw (lawful (goal.at.returns c).Else-not-legal, c.worst_of.ensures)
+returns c = rw (lawful _ c.in_ok-lawful.ensures.told, c.worst_of.ensures)

@@ -29,8 +29,8 @@ returns-in_default c =
 
 pub loop-i-preserved : goal.loop-i-preserved
 loop-i-preserved c =
-    let b : bound c.args.t c.loop-i.i ≡ found c.in-At.x
-    = sym c.find_bound-search.ensures.0 ∙ ap sought c.in-At.is in (
+    let b : bound c.args.t c.loop-i.i ≡ found c.in-Some.x
+    = sym c.find_bound-search.ensures.0 ∙ ap sought c.in-Some.is in (
       search rules,
       first_next (without_bound c.args.t) c.loop-i.i c.loop-i.invariant.1 (has_one c.args.t c.loop-i.i _ b),
       rw (c.loop-i.invariant.2, number_is c.args.t c.loop-i.i _ b) (listed_next (bound_number c.args.t) 0 c.loop-i.i 32 (omega arith)),

@@ -1,8 +1,7 @@
 use Rattle.admission.specs.Demand.{sum, share}
 use Rattle.table.specs.Threads.{thread}
-use mathlib.Core.Path.{◌≡◌}
-use Prim.Native.Nat.{◌+◌, ◌≤◌}
+use Rattle.std.proofs.Common.{◌≡◌, ◌+◌}
 use Rattle.admission.proofs.demand.demand.Given as goal
 
-abbrev pub invariant-loop-h : goal.invariant-loop-h
-invariant-loop-h l = (l.h ≤ l.h-end) × (l.sum ≡ (thread l.t l.i).budget + sum l.h (λ k. share (thread l.t l.i) l.x (thread l.t k)))
+abbrev pub invariant-loop-other : goal.invariant-loop-other
+invariant-loop-other l = l.sum ≡ (thread l.fn.t l.i).budget + sum l.other-index (λ k. share (thread l.fn.t l.i) l.x (thread l.fn.t k))

@@ -1,15 +1,12 @@
 use Rattle.admission.proofs.ProhibitionLaws.{stretch-above, stretch_other, stretch_unmarked}
 use Rattle.admission.proofs.QuotientLaws.{product_fits}
 use native.Mathlib.Omega.{arith}
+use mathlib.Core.Logic.{⊎_elim}
 use mathlib.Core.Path.{sym}
 use Rattle.admission.proofs.prohibited.stretch.Goals as goal
 
 pub returns-then-not-marked : goal.returns-then-not-marked
-returns-then-not-marked c = sym (stretch_unmarked _ _ _ (c.if-not-marked.true))
-
-pub returns-then-h-own : goal.returns-then-h-own
-returns-then-h-own c =
-    sym (stretch_other c.args.own c.args.h c.args.marked (omega arith))
+returns-then-not-marked c = sym (⊎_elim (λ m. stretch_unmarked _ _ _ m) (λ p. stretch_other c.args.own c.args.h c.args.marked p.1) c.then-not-marked.either)
 
 pub overflow_mul-result : goal.overflow_mul-result
 overflow_mul-result c = record { fits = rw c.rounded_up.ensures (product_fits _ _ _ (omega arith) (omega arith) (omega arith)) }

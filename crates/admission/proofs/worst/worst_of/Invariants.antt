@@ -1,8 +1,7 @@
-use Prim.Native.Nat.{◌≤◌}
-use mathlib.Core.Path.{◌≡◌}
+use Rattle.std.proofs.Common.{◌≡◌}
 use Rattle.admission.specs.Demand.{sum}
 use Rattle.admission.specs.Tried.{most_tried}
 use Rattle.admission.proofs.worst.worst_of.Given as goal
 
-abbrev pub invariant-loop-i : goal.invariant-loop-i
-invariant-loop-i l = (l.i ≤ l.i-end) × (l.sum ≡ sum l.i (most_tried l.t))
+abbrev pub invariant-loop-own : goal.invariant-loop-own
+invariant-loop-own l = l.sum ≡ sum l.own-index (most_tried l.fn.t)

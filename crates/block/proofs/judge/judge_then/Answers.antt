@@ -12,7 +12,7 @@ use Rattle.table.specs.declared.Table.{Table}
 use Rattle.state.specs.State.{last_clock}
 use Rattle.block.specs.Block.{whole, refusal_then}
 use Rattle.block.proofs.RunLaws.{fits_early}
-use Rattle.block.proofs.judge.refusal.Goals as goal
+use Rattle.block.proofs.judge.judge_then.Goals as goal
 
 -- What the test of the bytes told.
 whole_is : (t : Table) (masks bytes : List ℕ) (r v : Bool) → r ≡ and (eqb (length bytes % t.count) 0) (eqb (length masks) (length bytes / t.count)) → r ≡ v
@@ -38,17 +38,17 @@ returns-then-not-masks_pass c =
       sym c.masks_pass.ensures ∙ c.if-not-masks_pass.true,
     )
 
-pub overflow_sub-left : goal.overflow_sub-left
-overflow_sub-left c = omega (arith, fits_early _ _ (sym c.fits.ensures ∙ c.if-not-fits.false))
+pub clocks_left-requires : goal.clocks_left-requires
+clocks_left-requires c = fits_early _ _ (sym c.fits.ensures ∙ c.if-not-fits.false)
 
-pub returns-then-left-m : goal.returns-then-left-m
+pub returns-then-clocks_left-m : goal.returns-then-clocks_left-m
 unfolding refusal_then pick
-returns-then-left-m c =
+returns-then-clocks_left-m c =
     rw (
       sym c.fits.ensures ∙ c.if-not-fits.false,
       whole_is c.args.t c.args.masks.now c.args.bytes.now _ _ c.is_whole.ensures c.if-not-is_whole.false,
       sym c.masks_pass.ensures ∙ c.if-not-masks_pass.false,
-      lt-leb (c.args.s.clock + length c.args.masks.now) last_clock (omega (arith, fits_early _ _ (sym c.fits.ensures ∙ c.if-not-fits.false), c.if-left-m.true)),
+      lt-leb (c.args.s.clock + length c.args.masks.now) last_clock (omega (arith, c.clocks_left.ensures, c.if-clocks_left-m.true)),
     )
 
 pub returns-then-room-m : goal.returns-then-room-m
@@ -58,7 +58,7 @@ returns-then-room-m c =
       sym c.fits.ensures ∙ c.if-not-fits.false,
       whole_is c.args.t c.args.masks.now c.args.bytes.now _ _ c.is_whole.ensures c.if-not-is_whole.false,
       sym c.masks_pass.ensures ∙ c.if-not-masks_pass.false,
-      le-leb (c.args.s.clock + length c.args.masks.now) last_clock (omega (arith, fits_early _ _ (sym c.fits.ensures ∙ c.if-not-fits.false), c.if-left-m.false)),
+      le-leb (c.args.s.clock + length c.args.masks.now) last_clock (omega (arith, c.clocks_left.ensures, c.if-clocks_left-m.false)),
       lt-leb (length c.args.masks.now) c.args.room (omega (arith, c.if-room-m.true)),
     )
 
@@ -69,6 +69,6 @@ returns c =
       sym c.fits.ensures ∙ c.if-not-fits.false,
       whole_is c.args.t c.args.masks.now c.args.bytes.now _ _ c.is_whole.ensures c.if-not-is_whole.false,
       sym c.masks_pass.ensures ∙ c.if-not-masks_pass.false,
-      le-leb (c.args.s.clock + length c.args.masks.now) last_clock (omega (arith, fits_early _ _ (sym c.fits.ensures ∙ c.if-not-fits.false), c.if-left-m.false)),
+      le-leb (c.args.s.clock + length c.args.masks.now) last_clock (omega (arith, c.clocks_left.ensures, c.if-clocks_left-m.false)),
       le-leb (length c.args.masks.now) c.args.room (omega (arith, c.if-room-m.false)),
     )

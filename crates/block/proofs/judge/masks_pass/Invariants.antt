@@ -1,4 +1,4 @@
-use Prim.Native.Nat.{◌≤◌, ◌-◌}
+-- The masks so far pass.
 use mathlib.Core.Path.{◌≡◌}
 use mathlib.Core.Bool.{true}
 use lib.ListN.{get_or}
@@ -7,8 +7,5 @@ use Rattle.scheduler.specs.Taken.{mask_ok}
 use Rattle.block.specs.Play.{events}
 use Rattle.block.proofs.judge.masks_pass.Given as goal
 
-abbrev pub invariant-loop-k : goal.invariant-loop-k
-invariant-loop-k l = (l.k ≤ l.m) × (every l.k (λ i. mask_ok l.t (get_or l.masks i 0)) ≡ true) × (l.all ≡ events l.t 0 l.t.count)
-
-abbrev pub decreases-loop-k : goal.decreases-loop-k
-decreases-loop-k l = l.m - l.k
+abbrev pub invariant-loop-mask : goal.invariant-loop-mask
+invariant-loop-mask l = (every l.mask-index (λ i. mask_ok l.t (get_or l.masks i 0)) ≡ true) × (l.all ≡ events l.t 0 l.t.count)

@@ -1,6 +1,6 @@
 -- `block::play::play` meets its contract: after k steps the state is that of k steps, and their bytes are written.
 use mathlib.Core.Path.{◌≡◌}
-use Prim.Native.Nat.{◌≤◌, ◌-◌, ◌+◌, ◌*◌}
+use Prim.Native.Nat.{◌+◌, ◌*◌}
 use lib.ListN.{length}
 use lib.Seq.{slice, sets}
 use Rattle.table.specs.Threads.{thread}
@@ -15,25 +15,14 @@ use Rattle.block.proofs.VisitLaws.{Going}
 use Rattle.block.proofs.play.play.Given as goal
 
 abbrev pub invariant-loop-i : goal.invariant-loop-i
-invariant-loop-i l = (l.i ≤ l.count) × (l.next ≡ each_thread (λ j. moved (thread l.t j) l.initial.next.clock (has_event l.mask j)) l.i l.initial.next)
-
-abbrev pub decreases-loop-i : goal.decreases-loop-i
-decreases-loop-i l = l.count - l.i
+invariant-loop-i l = l.next ≡ each_thread (λ j. moved (thread l.t j) l.initial.next.clock (has_event l.mask j)) l.i l.initial.next
 
 abbrev pub invariant-loop-r : goal.invariant-loop-r
-invariant-loop-r l = (l.r ≤ l.ranked)
-    × Below l.count (slice l.r l.ranked l.order.at)
+invariant-loop-r l = Below l.count (slice l.r l.ranked l.order.at)
     × Going l.marks l.now (slice l.r l.ranked l.order.at) l.next l.answer (walk l.marks l.now (slice 0 l.ranked l.order.at) l.initial.next)
     × (length l.next.threads ≡ 32)
 
-abbrev pub decreases-loop-r : goal.decreases-loop-r
-decreases-loop-r l = l.ranked - l.r
-
 abbrev pub invariant-loop-k : goal.invariant-loop-k
-invariant-loop-k l = (l.k ≤ l.steps)
-    × (l.at ≡ (l.from + l.k) * l.count)
+invariant-loop-k l = (l.at ≡ (l.from + l.k) * l.count)
     × (l.next ≡ end_of (advance l.t l.marks (slice 0 l.ranked l.order.at)) (inputs l.t l.masks l.bytes l.from l.k) l.initial.next)
     × (l.out ≡ sets l.initial.out l.from (trace_of (advance l.t l.marks (slice 0 l.ranked l.order.at)) (inputs l.t l.masks l.bytes l.from l.k) l.initial.next))
-
-abbrev pub decreases-loop-k : goal.decreases-loop-k
-decreases-loop-k l = l.steps - l.k

@@ -21,7 +21,7 @@ use Rattle.walk.proofs.StepLaws.{step_clock, step_fits}
 use Rattle.block.specs.Block.{inputs, end_of, trace_of}
 use Rattle.block.proofs.StretchLaws.{fits-at, clock_at, sets_room}
 use Rattle.block.proofs.WindowLaws.{some_left, threads_stay}
-use Rattle.block.proofs.JoinLaws.{stretch_end, stretch-trace, shorter_steps, shorter_left, shorter_some}
+use Rattle.block.proofs.JoinLaws.{stretch_end, stretch-trace}
 use borrow.Author.Rules.{rules}
 use Rattle.block.proofs.stretch.play_in_frame.Goals as goal
 
@@ -51,7 +51,7 @@ narrow-p-requires c = (c.requires.usable.0.few, c.requires.usable.2, rw c.requir
 
 pub play-next-requires : goal.play-next-requires
 play-next-requires c =
-    let n = shorter_steps _ _ _ c.shorter-n.ensures in
+    let n : c.min-n.result ≤ length c.args.masks.now - c.loop-k.k = omega arith in
     let d = threads c.args.t c.args.f c.loop-k.next _ _ _ c.narrow-p.ensures.1 c.requires.usable.3 c.domain_at-d.ensures in
     let o = sets_room c.args.out.now c.loop-k.out 0 (trace_of (step c.args.t (framed c.args.f)) (inputs c.args.t c.args.masks.now c.args.bytes.now 0 c.loop-k.k) c.args.s) c.loop-k.invariant.2 in
     let e = later c.args.t c.args.f _ _ _ _ _ c.loop-k.invariant.1 in
@@ -63,23 +63,22 @@ play-next-requires c =
 
 pub overflow_add-k : goal.overflow_add-k
 overflow_add-k c =
-    let n = shorter_steps _ _ _ c.shorter-n.ensures in
-    let h : c.loop-k.k + c.shorter-n.result ≤ last_clock = omega arith in omega arith
+    let n : c.min-n.result ≤ length c.args.masks.now - c.loop-k.k = omega arith in
+    let h : c.loop-k.k + c.min-n.result ≤ last_clock = omega arith in omega arith
 
 pub loop-k-smaller : goal.loop-k-smaller
 loop-k-smaller c =
-    let n = shorter_steps _ _ _ c.shorter-n.ensures in
+    let n : c.min-n.result ≤ length c.args.masks.now - c.loop-k.k = omega arith in
     let a : 0 < c.steps_left-left.result = omega (arith, c.steps_left-left.ensures, some_left c.args.f c.requires.usable.1 c.loop-k.next.clock) in
     let b : 0 < length c.args.masks.now - c.loop-k.k = omega arith in
-    let z = shorter_some _ _ _ c.shorter-n.ensures a b in
     omega arith
 
 pub loop-k-preserved : goal.loop-k-preserved
 loop-k-preserved c =
-    let n = shorter_steps _ _ _ c.shorter-n.ensures in
+    let n : c.min-n.result ≤ length c.args.masks.now - c.loop-k.k = omega arith in
     let d = threads c.args.t c.args.f c.loop-k.next _ _ _ c.narrow-p.ensures.1 c.requires.usable.3 c.domain_at-d.ensures in
-    let h = stay c.args.t c.args.f c.loop-k.next _ c.shorter-n.result _ c.requires.usable.1 d (shorter_left _ _ _ c.shorter-n.ensures) c.steps_left-left.ensures in (
+    let h = stay c.args.t c.args.f c.loop-k.next _ c.min-n.result _ c.requires.usable.1 d (omega arith) c.steps_left-left.ensures in (
       omega arith,
-      stretch_end c.args.t (framed c.args.f) _ c.narrow-p.ensures.2 (ranked c.narrow-p.result.order) c.args.masks.now c.args.bytes.now c.args.s c.loop-k.next c.loop-k.k c.shorter-n.result c.loop-k.invariant.1 h _ c.play-next.ensures.0,
-      stretch-trace c.args.t (framed c.args.f) _ c.narrow-p.ensures.2 (ranked c.narrow-p.result.order) c.args.masks.now c.args.bytes.now c.args.s c.loop-k.next c.loop-k.k c.shorter-n.result c.loop-k.invariant.1 h c.args.out.now c.loop-k.out _ c.loop-k.invariant.2 c.play-next.ensures.1,
+      stretch_end c.args.t (framed c.args.f) _ c.narrow-p.ensures.2 (ranked c.narrow-p.result.order) c.args.masks.now c.args.bytes.now c.args.s c.loop-k.next c.loop-k.k c.min-n.result c.loop-k.invariant.1 h _ c.play-next.ensures.0,
+      stretch-trace c.args.t (framed c.args.f) _ c.narrow-p.ensures.2 (ranked c.narrow-p.result.order) c.args.masks.now c.args.bytes.now c.args.s c.loop-k.next c.loop-k.k c.min-n.result c.loop-k.invariant.1 h c.args.out.now c.loop-k.out _ c.loop-k.invariant.2 c.play-next.ensures.1,
     )

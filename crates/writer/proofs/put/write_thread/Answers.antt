@@ -1,22 +1,14 @@
 -- A thread is put as the first of its fields, which `fields` gives and `fields_in` counts.
-use Prim.Native.Nat.{◌≤◌}
-use mathlib.Core.Path.{ap, sym}
-use native.Mathlib.Omega.{arith}
-use lib.ListN.{length}
+use mathlib.Core.Path.{sym}
 use lib.Seq.{length-take-le}
-use Rattle.table.proofs.RangeLaws.{fields_in-most}
+use Rattle.writer.proofs.WriterLaws.{enough}
 use Rattle.writer.proofs.put.write_thread.Goals as goal
-use Rattle.writer.proofs.put.write_thread.Goals.{After-fields_in-n}
-
--- The thread has as many fields.
-enough : (c : After-fields_in-n) → c.fields_in-n.result ≤ length c.fields-vs.result
-enough c = omega (arith, c.fields_in-n.ensures, fields_in-most c.args.version, ap length c.fields-vs.ensures)
 
 pub slice_bounds-vs-end : goal.slice_bounds-vs-end
-slice_bounds-vs-end c = enough (goal.at.slice_bounds-vs-end c).After-fields_in-n
+slice_bounds-vs-end c = enough _ _ _ _ c.fields-vs.ensures c.fields_in-n.ensures
 
 pub slice_bounds-write_numbers-end : goal.slice_bounds-write_numbers-end
-slice_bounds-write_numbers-end c = sym (length-take-le _ _ (enough (goal.at.slice_bounds-write_numbers-end c).After-fields_in-n))
+slice_bounds-write_numbers-end c = sym (length-take-le _ _ (enough _ _ _ _ c.fields-vs.ensures c.fields_in-n.ensures))
 
 pub write_numbers-requires : goal.write_numbers-requires
 write_numbers-requires c =

@@ -1,31 +1,26 @@
--- The first i threads are put: each turn joins the next to them.
-use mathlib.Core.Path.{◌≡◌}
+-- The first threads are put: each turn joins the next to them.
 use native.Mathlib.Omega.{arith}
 use Rattle.numeral.specs.Number.{encode_all}
 use Rattle.writer.specs.Format.{thread_numbers}
-use Rattle.writer.proofs.WriterLaws.{put-none, put_join, put_room, put-length, threads_next, threads_room}
+use Rattle.writer.proofs.WriterLaws.{put-none, put_join, put_room, threads_next, first_room, first_all}
 use Rattle.writer.proofs.put.write_threads.Goals as goal
 
-pub loop-i-init : goal.loop-i-init
+pub loop-th-init : goal.loop-th-init
 unfolding encode_all thread_numbers
-loop-i-init c = (omega arith, put-none _ _)
+loop-th-init c = (omega arith, put-none _ _)
 
 pub write_thread-k-requires : goal.write_thread-k-requires
 write_thread-k-requires c =
-    put_room c.loop-i.invariant.1 c.requires.1
-    (threads_room _ _ _ _ c.loop-i-test.true)
+    put_room c.loop-th.invariant.1 c.requires.1
+    (first_room _ _ _ (omega arith) _ c.loop-th-test.true)
 
-pub loop-i-preserved : goal.loop-i-preserved
-loop-i-preserved c = (
+pub loop-th-preserved : goal.loop-th-preserved
+loop-th-preserved c = (
   omega arith,
   rw (threads_next _ _ _)
-      (put_join c.loop-i.invariant.1 c.write_thread-k.ensures),
+      (put_join c.loop-th.invariant.1 c.write_thread-k.ensures),
 )
-
-pub shape_of-buf : goal.shape_of-buf
-shape_of-buf c = put-length c.loop-i.invariant.1
 
 pub returns : goal.returns
 returns c =
-    let e : c.loop-i.i ≡ c.args.n = omega arith in
-    rw e at c.loop-i.invariant.1
+    rw (first_all c.args.version c.args.threads c.args.n (omega arith) c.loop-th.th-index c.loop-th.invariant.0 c.loop-th-test.false) at c.loop-th.invariant.1

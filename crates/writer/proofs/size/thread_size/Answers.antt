@@ -1,24 +1,19 @@
--- The sizes of the fields add up as their bytes join.
-use Prim.Native.Nat.{◌<◌}
-use mathlib.Core.Path.{◌≡◌, refl, ap}
-use native.Mathlib.Omega.{arith}
-use lib.ListN.{length}
-use Rattle.table.specs.Threads.{fields_in}
+-- A thread's size is that of the first of its fields, which `fields` gives and `fields_in` counts.
+use lib.Seq.{length-take-le}
 use Rattle.table.proofs.RangeLaws.{fields_in-most}
-use Rattle.numeral.specs.Number.{encode_all}
-use Rattle.writer.proofs.WriterLaws.{numbers-length}
+use Rattle.writer.proofs.WriterLaws.{enough}
+use mathlib.Core.Path.{sym}
+use native.Mathlib.Omega.{arith}
 use Rattle.writer.proofs.size.thread_size.Goals as goal
 
-pub loop-i-init : goal.loop-i-init
-unfolding encode_all
-loop-i-init c = (omega arith, rw c.fields_in-i-end.ensures (fields_in-most _), refl, omega arith)
+pub slice_bounds-vs-end : goal.slice_bounds-vs-end
+slice_bounds-vs-end c = enough _ _ _ _ c.fields-vs.ensures c.fields_in-n.ensures
 
-pub loop-i-preserved : goal.loop-i-preserved
-loop-i-preserved c =
-    let h : c.loop-i.i < length c.fields-vs.result = omega (arith, ap length c.fields-vs.ensures) in
-    omega (arith, numbers-length c.fields-vs.result c.loop-i.i h)
+pub slice_bounds-numbers_size-end : goal.slice_bounds-numbers_size-end
+slice_bounds-numbers_size-end c = sym (length-take-le _ _ (enough _ _ _ _ c.fields-vs.ensures c.fields_in-n.ensures))
 
 pub returns : goal.returns
-returns c =
-    let e : c.loop-i.i ≡ fields_in c.args.version = omega (arith, c.fields_in-i-end.ensures) in
-    (rw (e, c.fields-vs.ensures) at c.loop-i.invariant.2, omega arith)
+returns c = (
+  rw (c.fields_in-n.ensures, c.fields-vs.ensures) at c.numbers_size.ensures.0,
+  omega (arith, length-take-le c.fields_in-n.result c.fields-vs.result (enough _ _ _ _ c.fields-vs.ensures c.fields_in-n.ensures), fields_in-most c.args.version),
+)

@@ -7,5 +7,5 @@ use Rattle.numeral.specs.Number.{encode_all}
 use Rattle.writer.specs.Format.{thread_numbers}
 use Rattle.writer.proofs.size.threads_size.Given as goal
 
-abbrev pub invariant-loop-i : goal.invariant-loop-i
-invariant-loop-i l = (l.i ≤ l.n) × (l.k ≡ length (encode_all (thread_numbers l.version l.threads l.i))) × (l.k ≤ 3 * field_count * l.i)
+abbrev pub invariant-loop-th : goal.invariant-loop-th
+invariant-loop-th l = (l.th-index ≤ length l.th-items) × (l.k ≡ length (encode_all (thread_numbers l.version l.th-items l.th-index))) × (l.k ≤ 3 * field_count * l.th-index)
