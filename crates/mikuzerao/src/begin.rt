@@ -1,4 +1,6 @@
 // How a call with steps begins: its words, files, frame and table are judged before anything is printed.
+ghost use Rattle.std.specs.Prelude.{◌≤◌};
+
 use super::call::Call;
 use super::files::{Source, input_once, open_named, open_optional};
 use super::framing::{check_frame, take_frame};
@@ -22,7 +24,9 @@ pub fn take_asked<R: Runtime>(
     rt: &R,
     call: Call,
     from: usize,
-) -> Result<Asked<Source<R::File, R::Reader>>, Stop> {
+) -> Result<Asked<Source<R::File, R::Reader>>, Stop>
+    requires { from ≤ 64 }
+{
     let options = take_options(rt, call, from)?;
     input_once(rt, from, &[options.events, options.frame])?;
     let frame = take_frame(rt, options.frame)?;

@@ -53,7 +53,7 @@ pub fn count_commands<S: Read>(from: &mut S) -> Result<u64, NoNumber> {
     count_line(c.lines, close(c.field))
 }
 
-// The commands that are still to be taken: a part of their text, and the place in it.
+// The commands that are still to be taken: a part of their text, in an array by value for want of a heap, and the place in it.
 #[derive(Drop)]
 pub struct Commands<S> {
     from: S,

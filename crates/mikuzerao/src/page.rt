@@ -4,7 +4,7 @@ ghost use Rattle.std.specs.Prelude.{◌≤◌, ◌<◌, ◌+◌, length};
 use std::fmt;
 use std::fmt::Write;
 
-// The text, and how many bytes it has.
+// The text, and how many bytes it has: an array by value, since the program takes no memory of the heap.
 #[derive(Drop)]
 pub struct Page {
     bytes: [u8; 65536],

@@ -19,7 +19,7 @@ use std::rt::Runtime;
 use table::Table;
 
 // A run: what it is of, how it is shown, whether the state is told at its end, where its steps and masks come from, and how far it is.
-// The bytes at the front of its buffer are of a step that is not whole.
+// The bytes at the front of its buffer, an array by value for want of a heap, are of a step that is not whole.
 #[derive(Drop)]
 struct Running<'a, R, S> {
     rt: &'a R,

@@ -1,5 +1,5 @@
 // The start of a run: the bytes that a step has, and the state.
-ghost use Rattle.std.specs.Prelude.{◌<◌};
+ghost use Rattle.std.specs.Prelude.{◌<◌, ◌≤◌};
 
 use super::say::{Stop, Stream, say};
 use super::stop::{Stuck, refuse_step};
@@ -9,7 +9,7 @@ use table::Table;
 
 // How many bytes a step has: one a thread, of which a legal table has one at least.
 pub fn step_size(t: &Table) -> usize
-    ensures { 0 < result }
+    ensures { (0 < result) × (result ≤ 255) }
 {
     (t.count as usize).max(1)
 }

@@ -5,7 +5,7 @@ use super::say::{Stop, wrong};
 use std::env::{Env, FillError};
 use typed::{number_of, signed_of};
 
-// Whether there is a word i.
+// Whether there is a word i. Words are asked for by their place: `env::args` refuses one that is not UTF-8, and takes memory for all.
 fn has_word(rt: &impl Env, i: usize) -> bool {
     let mut nothing = [0u8; 1];
     !matches!(rt.arg(i, &mut nothing), Err(FillError::NotPresent))
