@@ -2,6 +2,7 @@
 #![tactic(auto)]
 
 mod begin;
+mod call;
 mod clean;
 mod commands;
 mod desk;
@@ -13,81 +14,63 @@ mod long;
 mod masks;
 mod mending;
 mod options;
+mod page;
+mod parts;
 mod plan;
 mod refusal;
 mod run;
 mod say;
 mod show;
-mod sizes;
+mod steps;
 mod stop;
 mod tables;
 mod words;
 
-use begin::run;
+use call::{Call, call_of};
 use clean::clean;
-use desk::desk;
+use desk::{desk, say_legal, say_written};
 use drive::drive;
 use help::help;
 use mending::mend_rows;
-use say::end_wrong;
-use std::env::Env;
+use plan::plan;
+use run::run;
+use say::{Stop, Stream, wrong};
 use std::process::ExitCode;
 use std::rt::Runtime;
-use words::is_word;
+use words::read_word;
 
-// The calls on one table, by their number: check, bytes, sheet, plan; 4 for another word.
-fn table_call(rt: &impl Env) -> u8 {
-    if is_word(rt, 1, b"check") {
-        return 0;
+fn answer(rt: &impl Runtime, call: Call) -> Result<(), Stop> {
+    match call {
+        Call::Check => desk(rt, Stream::Output, |t| say_legal(rt, t)),
+        Call::Bytes => desk(rt, Stream::Complaints, |t| say_written(rt, t, codec::write)),
+        Call::Sheet => desk(rt, Stream::Complaints, |t| say_written(rt, t, sheet::write)),
+        Call::Plan => desk(rt, Stream::Output, |t| plan(rt, t)),
+        Call::Mend => mend_rows(rt),
+        Call::Run | Call::Trace => run(rt, call),
+        Call::Clean => clean(rt),
+        Call::Drive => drive(rt),
+        Call::Help => {
+            help(rt);
+            Ok(())
+        }
     }
-    if is_word(rt, 1, b"bytes") {
-        return 1;
-    }
-    if is_word(rt, 1, b"sheet") {
-        return 2;
-    }
-    if is_word(rt, 1, b"plan") { 3 } else { 4 }
 }
 
-// The calls with steps, and those that are left.
-fn step_call(rt: &impl Runtime) -> u8 {
-    if is_word(rt, 1, b"run") {
-        return run(rt, false);
+// The status of the call that the first word names.
+fn status(rt: &impl Runtime) -> u8 {
+    let ended = match read_word(rt, 1, call_of) {
+        Some(call) => answer(rt, call),
+        None => Err(wrong(
+            rt,
+            "the first word is one of check, bytes, sheet, plan, mend, run, trace, clean, drive, help",
+        )),
+    };
+    match ended {
+        Ok(()) => 0,
+        Err(stop) => u8::from(stop),
     }
-    if is_word(rt, 1, b"trace") {
-        return run(rt, true);
-    }
-    if is_word(rt, 1, b"drive") {
-        return drive(rt);
-    }
-    other_call(rt)
-}
-
-fn other_call(rt: &impl Runtime) -> u8 {
-    if is_word(rt, 1, b"mend") {
-        return mend_rows(rt);
-    }
-    if is_word(rt, 1, b"clean") {
-        return clean(rt);
-    }
-    if is_word(rt, 1, b"help") {
-        return help(rt);
-    }
-    end_wrong(
-        rt,
-        "the first word is one of check, bytes, sheet, plan, mend, run, trace, clean, drive, help",
-    )
-}
-
-// The status of the call.
-fn call(rt: &impl Runtime) -> u8 {
-    let number = table_call(rt);
-    if number < 4 {
-        return desk(rt, number);
-    }
-    step_call(rt)
 }
 
 fn main(rt: HostRuntime) -> ExitCode {
-    ExitCode::from(call(&rt))
+    ExitCode::from(status(&rt))
 }

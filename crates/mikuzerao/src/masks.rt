@@ -1,61 +1,62 @@
 // The masks of events of a run: four bytes a step, the lowest first.
-ghost use Rattle.std.specs.Prelude.{◌≤◌, length};
-
+use super::stop::Stuck;
 use input::fill;
 use std::io::Read;
 
-// How many masks came, and how many bytes of one that is not whole.
-#[derive(Clone, Copy)]
-pub struct Came {
-    pub masks: usize,
+// The masks that came, and how many bytes of one that is not whole.
+#[derive(Clone, Copy, Debug, PartialEq, Eq)]
+pub struct Came<'a> {
+    pub masks: &'a [u32],
     pub rest: usize,
 }
 
-fn mask_of(a: u8, b: u8, c: u8, d: u8) -> u32 {
-    let low = (a as u32) | ((b as u32) << 8);
-    let high = (c as u32) | ((d as u32) << 8);
-    low | (high << 16)
-}
+impl Came<'_> {
+    // The mask of a step; behind the last there are empty ones.
+    pub fn mask(&self, k: usize) -> u32 {
+        self.masks.get(k).copied().unwrap_or(0)
+    }
 
-// The masks of whole fours of bytes, as many as there is place for.
-fn decode(raw: &[u8], masks: &mut [u32]) {
-    for k in 0..masks.len() {
-        if k < raw.len() / 4 {
-            masks[k] = mask_of(raw[4 * k], raw[4 * k + 1], raw[4 * k + 2], raw[4 * k + 3]);
+    // Whether so many steps, of so many bytes each, have their masks.
+    pub fn check(&self, whole: usize, bytes: usize) -> Result<(), Stuck> {
+        if self.masks.len() < whole {
+            return Err(Stuck::Short {
+                bytes,
+                mask: self.rest,
+            });
         }
+        Ok(())
     }
 }
 
-// Puts the masks of the next n steps, 4,000 at most, at the front. Without a file of events they are empty.
-pub fn take_masks<S: Read>(events: &mut Option<S>, masks: &mut [u32], n: usize) -> Came {
+// The masks of the next n steps, as many as there is place for, 4,000 at most. Without a file of events they are empty.
+pub fn take_masks<'a, S: Read>(events: &mut Option<S>, masks: &'a mut [u32], n: usize) -> Came<'a> {
+    let n = n.min(masks.len());
+    let masks = &mut masks[..n];
     match events {
-        None => Came { masks: n, rest: 0 },
-        Some(from) => read_masks(from, masks, n),
+        None => Came { masks, rest: 0 },
+        Some(from) => read_masks(from, masks),
     }
 }
 
-fn read_masks<S: Read>(from: &mut S, masks: &mut [u32], n: usize) -> Came {
+fn read_masks<'a, S: Read>(from: &mut S, masks: &'a mut [u32]) -> Came<'a> {
     let mut raw = [0u8; 16000];
-    let want = if n < 4000 { n * 4 } else { 16000 };
-    let f = fill(from, &mut raw[..want]);
-    let got = f.count;
-    decode(&raw[..got], masks);
+    let n = masks.len().min(4000);
+    let f = fill(from, &mut raw[..4 * n]);
+    let (fours, rest) = raw[..f.count].as_chunks::<4>();
+    for (mask, four) in masks.iter_mut().zip(fours) {
+        *mask = u32::from_le_bytes(*four);
+    }
     Came {
-        masks: got / 4,
-        rest: got % 4,
+        masks: &masks[..fours.len()],
+        rest: rest.len(),
     }
 }
 
 // Whether bytes are left behind the last mask that was taken.
 pub fn masks_left<S: Read>(events: &mut Option<S>) -> bool {
+    let mut one = [0u8; 1];
     match events {
         None => false,
-        Some(from) => is_more(from),
+        Some(from) => 0 < fill(from, &mut one).count,
     }
-}
-
-fn is_more<S: Read>(from: &mut S) -> bool {
-    let mut one = [0u8; 1];
-    let f = fill(from, &mut one);
-    0 < f.count
 }

@@ -1,123 +1,94 @@
 // mend: one line of rows, and what its smallest transitive relation adds.
-use super::refusal::say_sentence;
-use super::say::{FINE, REFUSED, WRONG, say};
-use super::tables::load;
-use super::words::has_words;
-use input::{read_on, turns_left};
-use mend::Mending;
-use sentence::{explain, row_cause};
+use super::parts::read_parts;
+use super::refusal::refuse;
+use super::say::{Stop, Stream, say};
+use super::tables::{Loaded, load};
+use super::words::want_words;
+use basis::Refusal;
+use mend::{Unmendable, mend};
+use sentence::{Form, explain, row_cause};
 use std::io::Read;
 use std::rt::Runtime;
-use typed::{Rows, close_rows, new_rows, read_rows};
+use typed::{Fault, Rows, close_rows, new_rows, read_rows};
 
-// What a source gives behind the text that is read already.
-fn read_rest<S: Read>(from: &mut S, first: Rows) -> Rows {
-    let mut part = [0u8; 65536];
-    let mut r = first;
-    let mut turns = 1000000000000u64;
-    while 0 < turns {
-        let f = read_on(from, &mut part, 0);
-        let n = f.count;
-        r = read_rows(r, &part[..n]);
-        let more = if f.open { true } else { 0 < n };
-        turns = turns_left(turns, more);
-    }
-    r
+// The rows of a text, and those that its source gives behind it.
+fn read_all<S: Read>(from: &mut S, text: &[u8]) -> Rows {
+    let mut r = read_rows(new_rows(), text);
+    let _ = read_parts(from, |part| -> Result<(), Stop> {
+        r = read_rows(r, part);
+        Ok(())
+    });
+    close_rows(r)
 }
 
-// A refusal with its place, and of its row, as it stands in the text, what is wrong.
+// A refusal with its place, and of row i, as it stands in the text, what is wrong.
 fn refuse_row(
     rt: &(impl Print + Eprint),
     text: &[u8],
-    r: Rows,
-    why: u8,
-    place: u64,
+    fault: Fault,
     i: u8,
-    value: u16,
-) -> u8 {
-    say(rt, b"refused # #\n", &[why as u64, place]);
-    let mut out = [0u8; 512];
-    let at = if place < 65536 { place as usize } else { 65536 };
-    let rows = if why == 6 { r.count } else { 0 };
-    let n = explain(&mut out, why, true, row_cause(text, at, i, value, rows));
-    say_sentence(rt, &out, n);
-    REFUSED
+    value: Option<u16>,
+    rows: Option<u8>,
+) -> Stop {
+    let Fault { why, place } = fault;
+    let at = place.min(65536) as usize;
+    refuse(rt, Stream::Output, why, Some(place), |out| {
+        explain(out, why, Form::Sheet, row_cause(text, at, i, value, rows))
+    })
 }
 
-fn say_rows(rt: &(impl Print + Eprint), rows: [u16; 16], n: u8) {
-    for i in 0..16u8 {
-        if i < n {
-            let row = rows[i as usize] as u64;
-            if i + 1 < n {
-                say(rt, b"#,", &[row]);
-            } else {
-                say(rt, b"#\n", &[row]);
-            }
-        }
+// The rows mended, and the pairs that were added.
+fn say_mended(rt: &(impl Print + Eprint), rows: &[u16], pairs: &[u8]) {
+    for (i, row) in rows.iter().enumerate() {
+        let end = if i + 1 < rows.len() { "," } else { "\n" };
+        say(rt, format_args!("{row}{end}"));
     }
-}
-
-fn say_pairs(rt: &(impl Print + Eprint), pairs: &[u8], n: usize) {
-    for k in 0..pairs.len() {
-        if k < n {
-            let p = pairs[k];
-            say(rt, b"# #\n", &[(p / 16) as u64, (p % 16) as u64]);
-        }
+    say(rt, format_args!("added {}\n", pairs.len()));
+    for p in pairs {
+        say(rt, format_args!("{} {}\n", p / 16, p % 16));
     }
 }
 
 // The line is whole: its rows are mended.
-fn answer(rt: &(impl Print + Eprint), text: &[u8], r: Rows) -> u8 {
+fn answer(rt: &(impl Print + Eprint), text: &[u8], r: &Rows) -> Result<(), Stop> {
     let mut pairs = [0u8; 256];
+    let n = r.count as usize;
     let given = r.rows;
     let starts = r.starts;
-    let n = r.count as usize;
-    if 16 < n {
-        return refuse_row(rt, text, r, 5, starts[16], 16, 0);
-    }
-    let m = mend::mend(&given[..n], &mut pairs);
-    let a = m.answer;
-    let rows = m.rows;
-    match a {
-        Mending::Added(k) => {
-            say_rows(rt, rows, r.count);
-            say(rt, b"added #\n", &[k as u64]);
-            say_pairs(rt, &pairs, k);
-            FINE
-        }
-        Mending::BadRow(i) => {
-            if 16 <= i {
-                return FINE;
+    let Some(rows) = given.get(..n) else {
+        let fault = Fault {
+            why: Refusal::Count,
+            place: starts[16],
+        };
+        return Err(refuse_row(rt, text, fault, 16, None, None));
+    };
+    match mend(rows, &mut pairs) {
+        Ok(m) => {
+            let mended = m.rows;
+            if let (Some(rows), Some(pairs)) = (mended.get(..n), pairs.get(..m.added)) {
+                say_mended(rt, rows, pairs);
             }
-            refuse_row(rt, text, r, 6, starts[i as usize], i, given[i as usize])
+            Ok(())
         }
-        Mending::BadCount => FINE,
-        Mending::NoRoom => FINE,
+        Err(Unmendable::BadRow(i)) if i < 16 => {
+            let fault = Fault {
+                why: Refusal::Row,
+                place: starts[i as usize],
+            };
+            let value = given[i as usize];
+            Err(refuse_row(rt, text, fault, i, Some(value), Some(r.count)))
+        }
+        Err(_) => Ok(()),
     }
 }
 
-// The line of a file, of which this is the front.
-fn mend_from<S: Read>(rt: &(impl Print + Eprint), from: &mut S, text: &[u8]) -> u8 {
-    let first = read_rows(new_rows(), text);
-    let r = close_rows(read_rest(from, first));
-    if r.why != 0 {
-        return refuse_row(rt, text, r, r.why, r.place, r.count, 0);
-    }
-    answer(rt, text, r)
-}
-
-pub fn mend_rows(rt: &impl Runtime) -> u8 {
-    if !has_words(rt, 2) {
-        return WRONG;
-    }
+pub fn mend_rows(rt: &impl Runtime) -> Result<(), Stop> {
+    want_words(rt, 2)?;
     let mut text = [0u8; 65536];
-    let got = load(rt, 2, &mut text);
-    let n = got.len;
-    match got.from {
-        None => WRONG,
-        Some(source) => {
-            let mut from = source;
-            mend_from(rt, &mut from, &text[..n])
-        }
+    let Loaded { mut from, text } = load(rt, 2, &mut text)?;
+    let r = read_all(&mut from, text);
+    match r.fault {
+        Some(fault) => Err(refuse_row(rt, text, fault, r.count, None, None)),
+        None => answer(rt, text, &r),
     }
 }

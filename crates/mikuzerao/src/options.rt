@@ -1,186 +1,125 @@
 // The options behind a call with steps.
-use super::say::end_wrong;
-use super::words::{count_words, is_word, number_word, signed_word};
+ghost use Rattle.std.specs.Prelude.{◌<◌, ◌≤◌};
+
+use super::call::Call;
+use super::say::{Stop, wrong};
+use super::words::{count_words, is_word, number_word, read_word, signed_word};
 use std::env::Env;
-use typed::Argument;
 
-// What the call is: run, trace or drive.
-pub const RUN: u8 = 0;
-
-pub const TRACE: u8 = 1;
-
-pub const DRIVE: u8 = 2;
-
-// The words that name the files of events and of the frame (0: none), the domain that it is shown to, whether the state is asked for, the
-// actuator's numbers, and the next word.
-#[derive(Clone, Copy)]
+// The words that name the files of events and of the frame, the domain that it is shown to, whether the state is asked for, and the
+// actuator's numbers.
+#[derive(Clone, Copy, Debug, PartialEq, Eq)]
 pub struct Options {
-    pub ok: bool,
-    pub next: usize,
-    pub events: usize,
-    pub frame: usize,
-    pub shows: bool,
-    pub shown: u64,
+    pub events: Option<usize>,
+    pub frame: Option<usize>,
+    pub shown: Option<u64>,
     pub state: bool,
     pub rate: u64,
     pub start: i32,
     pub thread: u64,
 }
 
-// After one option with what it wants.
-fn passed(mut o: Options) -> Options {
-    if o.next < 64 {
-        o.next += 2;
+// An option that wants a word behind it.
+#[derive(Clone, Copy, Debug, PartialEq, Eq)]
+enum Name {
+    Events,
+    Frame,
+    Shown,
+    Rate,
+    Start,
+    Thread,
+}
+
+// The option of a call that a word names.
+fn name_of(call: Call, word: &[u8]) -> Option<Name> {
+    match (call, word) {
+        (_, b"events") => Some(Name::Events),
+        (_, b"frame") => Some(Name::Frame),
+        (Call::Run, b"shown") => Some(Name::Shown),
+        (Call::Drive, b"rate") => Some(Name::Rate),
+        (Call::Drive, b"start") => Some(Name::Start),
+        (Call::Drive, b"thread") => Some(Name::Thread),
+        _ => None,
     }
-    o
 }
 
-fn failed(rt: &impl Eprint, mut o: Options, what: &str) -> Options {
-    end_wrong(rt, what);
-    o.ok = false;
-    o
+// A value that must be there.
+fn wanted<T: Drop>(rt: &impl Eprint, value: Option<T>, what: &str) -> Result<T, Stop> {
+    value.ok_or_else(|| wrong(rt, what))
 }
 
-// Behind an option that wants a word stands one.
-fn has_more(rt: &impl Env, o: Options) -> bool {
-    if o.next < 64 {
-        return o.next + 1 < count_words(rt);
-    }
-    false
-}
-
-fn behind(o: Options) -> usize {
-    if o.next < 64 { o.next + 1 } else { o.next }
-}
-
-fn take_shown(rt: &(impl Env + Eprint), mut o: Options) -> Options {
-    let a = number_word(rt, behind(o));
-    match a {
-        Argument::Number(n) => {
-            o.shows = true;
-            o.shown = n;
-            passed(o)
+// The option that word i names, with the word behind it.
+fn take_named(
+    rt: &(impl Env + Eprint),
+    call: Call,
+    i: usize,
+    behind: usize,
+    o: &mut Options,
+) -> Result<(), Stop> {
+    let name = wanted(
+        rt,
+        read_word(rt, i, |word| name_of(call, word)),
+        "no such option",
+    )?;
+    match name {
+        Name::Events => o.events = Some(behind),
+        Name::Frame => o.frame = Some(behind),
+        Name::Shown => {
+            let n = number_word(rt, behind);
+            o.shown = Some(wanted(rt, n, "shown wants the number of a domain")?);
         }
-        Argument::NoNumber => failed(rt, o, "shown wants the number of a domain"),
-    }
-}
-
-fn take_rate(rt: &(impl Env + Eprint), mut o: Options) -> Options {
-    let a = number_word(rt, behind(o));
-    match a {
-        Argument::Number(n) => {
-            o.rate = n;
-            passed(o)
-        }
-        Argument::NoNumber => failed(rt, o, "rate wants a number"),
-    }
-}
-
-fn take_thread(rt: &(impl Env + Eprint), mut o: Options) -> Options {
-    let a = number_word(rt, behind(o));
-    match a {
-        Argument::Number(n) => {
-            o.thread = n;
-            passed(o)
-        }
-        Argument::NoNumber => failed(rt, o, "thread wants the number of a thread"),
-    }
-}
-
-fn take_start(rt: &(impl Env + Eprint), mut o: Options) -> Options {
-    let s = signed_word(rt, behind(o));
-    if s.number {
-        o.start = s.value;
-        return passed(o);
-    }
-    failed(rt, o, "start wants a number")
-}
-
-fn take_state(mut o: Options) -> Options {
-    o.state = true;
-    if o.next < 64 {
-        o.next += 1;
-    }
-    o
-}
-
-// The options of every call with steps.
-fn take_file(rt: &(impl Env + Eprint), mut o: Options) -> Options {
-    let i = behind(o);
-    if is_word(rt, o.next, b"events") {
-        o.events = i;
-        return passed(o);
-    }
-    if is_word(rt, o.next, b"frame") {
-        o.frame = i;
-        return passed(o);
-    }
-    failed(rt, o, "no such option")
-}
-
-fn take_run(rt: &(impl Env + Eprint), o: Options) -> Options {
-    if is_word(rt, o.next, b"shown") {
-        return take_shown(rt, o);
-    }
-    take_file(rt, o)
-}
-
-fn take_drive(rt: &(impl Env + Eprint), o: Options) -> Options {
-    if is_word(rt, o.next, b"rate") {
-        return take_rate(rt, o);
-    }
-    if is_word(rt, o.next, b"start") {
-        return take_start(rt, o);
-    }
-    if is_word(rt, o.next, b"thread") {
-        return take_thread(rt, o);
-    }
-    take_file(rt, o)
-}
-
-// One option more.
-fn take_option(rt: &(impl Env + Eprint), call: u8, o: Options) -> Options {
-    if call == RUN {
-        if is_word(rt, o.next, b"state") {
-            return take_state(o);
+        Name::Rate => o.rate = wanted(rt, number_word(rt, behind), "rate wants a number")?,
+        Name::Start => o.start = wanted(rt, signed_word(rt, behind), "start wants a number")?,
+        Name::Thread => {
+            let n = number_word(rt, behind);
+            o.thread = wanted(rt, n, "thread wants the number of a thread")?;
         }
     }
-    if !has_more(rt, o) {
-        return failed(rt, o, "an option that is not there, or nothing behind it");
-    }
-    match call {
-        0 => take_run(rt, o),
-        2 => take_drive(rt, o),
-        _ => take_file(rt, o),
-    }
+    Ok(())
 }
 
-// The options from a word on; not ok after a line that says why not.
-pub fn take_options(rt: &(impl Env + Eprint), call: u8, from: usize) -> Options {
+// The option that word i of so many names; the next word comes back.
+fn take_option(
+    rt: &(impl Env + Eprint),
+    call: Call,
+    i: usize,
+    count: usize,
+    o: &mut Options,
+) -> Result<usize, Stop>
+    requires { (i < count) × (count ≤ 64) }
+{
+    if call == Call::Run && is_word(rt, i, b"state") {
+        o.state = true;
+        return Ok(i + 1);
+    }
+    if i + 1 == count {
+        return Err(wrong(rt, "an option that is not there, or nothing behind it"));
+    }
+    take_named(rt, call, i, i + 1, o)?;
+    Ok(i + 2)
+}
+
+// The options of a call from a word on, eight at most.
+pub fn take_options(rt: &(impl Env + Eprint), call: Call, from: usize) -> Result<Options, Stop> {
     let count = count_words(rt);
     let mut o = Options {
-        ok: true,
-        next: from,
-        events: 0,
-        frame: 0,
-        shows: false,
-        shown: 0,
+        events: None,
+        frame: None,
+        shown: None,
         state: false,
         rate: 1000,
         start: 0,
         thread: 0,
     };
-    for i in 0..8u8 {
-        if o.ok {
-            if o.next < count {
-                o = take_option(rt, call, o);
-            }
+    let mut next = from;
+    for _ in 0..8u8 {
+        if count <= next {
+            return Ok(o);
         }
+        next = take_option(rt, call, next, count, &mut o)?;
     }
-    if o.ok {
-        if o.next < count {
-            return failed(rt, o, "too many words");
-        }
+    if next < count {
+        return Err(wrong(rt, "too many words"));
     }
-    o
+    Ok(o)
 }

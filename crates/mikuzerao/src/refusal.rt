@@ -1,78 +1,55 @@
 // A refusal: its line, and beside it on standard error one sentence in words.
-use super::say::{FINE, REFUSED, Stream, complain, say_to};
-use super::tables::is_sheet;
-use reader::Verdict;
-use sentence::{explain, explain_gap, find};
+use super::say::{Stop, Stream, complain, say_to};
+use super::tables::form_of;
+use basis::Refusal;
+use reader::Fault;
+use sentence::{explain, find};
+use std::str;
 
-// The first n bytes of a sentence.
-pub fn say_sentence(rt: &impl Eprint, out: &[u8], n: usize) {
-    if n <= out.len() {
-        complain(rt, &out[..n]);
+// The sentence that a function puts at the front of a lent buffer, as long as it says.
+fn say_sentence<F: FnOnce(&mut [u8]) -> usize>(rt: &impl Eprint, sentence: F)
+    requires { F.IsAlwaysCallable sentence }
+{
+    let mut out = [0u8; 512];
+    let n = sentence(&mut out);
+    if let Some(bytes) = out.get(..n) {
+        if let Ok(words) = str::from_utf8(bytes) {
+            complain(rt, words);
+        }
     }
 }
 
-fn refuse_number(rt: &(impl Print + Eprint), to: Stream, text: &[u8], why: u8, place: usize) -> u8 {
-    say_to(rt, to, b"refused # #\n", &[why as u64, place as u64]);
-    let mut out = [0u8; 512];
-    let sheet = is_sheet(text);
-    let n = explain(&mut out, why, sheet, find(text, sheet, place));
-    say_sentence(rt, &out, n);
-    REFUSED
-}
-
-fn refuse_gap(rt: &(impl Print + Eprint), to: Stream, place: usize, a: u8, b: u8, c: u8) -> u8 {
-    say_to(
-        rt,
-        to,
-        b"refused 7 # # # #\n",
-        &[place as u64, a as u64, b as u64, c as u64],
-    );
-    let mut out = [0u8; 512];
-    let n = explain_gap(&mut out, a, b, c);
-    say_sentence(rt, &out, n);
-    REFUSED
+// A line with the refusal's number, and with its place or clock where it has one, and its sentence.
+pub fn refuse<F: FnOnce(&mut [u8]) -> usize>(
+    rt: &(impl Print + Eprint),
+    to: Stream,
+    why: Refusal,
+    place: Option<u64>,
+    sentence: F,
+) -> Stop
+    requires { F.IsAlwaysCallable sentence }
+{
+    let number = u8::from(why);
+    match (why, place) {
+        (Refusal::Intransitive { a, b, c }, Some(place)) => {
+            say_to(
+                rt,
+                to,
+                format_args!("refused {number} {place} {a} {b} {c}\n"),
+            );
+        }
+        (_, Some(place)) => say_to(rt, to, format_args!("refused {number} {place}\n")),
+        (_, None) => say_to(rt, to, format_args!("refused {number}\n")),
+    }
+    say_sentence(rt, sentence);
+    Stop::Refused
 }
 
 // A refused table, with the text that it was read from.
-pub fn refuse_table(rt: &(impl Print + Eprint), to: Stream, text: &[u8], v: Verdict) -> u8 {
-    match v {
-        Verdict::Accepted => FINE,
-        Verdict::Refused(why, place) => refuse_number(rt, to, text, why, place),
-        Verdict::Intransitive { place, a, b, c } => refuse_gap(rt, to, place, a, b, c),
-    }
-}
-
-// `refused` and a number alone, with a sentence that is already made.
-pub fn refuse(rt: &(impl Print + Eprint), to: Stream, why: u8, out: &[u8], n: usize) -> u8 {
-    say_to(rt, to, b"refused #\n", &[why as u64]);
-    say_sentence(rt, out, n);
-    REFUSED
-}
-
-// `refused`, a number and a clock.
-pub fn refuse_step(
-    rt: &(impl Print + Eprint),
-    to: Stream,
-    why: u8,
-    clock: u32,
-    out: &[u8],
-    n: usize,
-) -> u8 {
-    say_to(rt, to, b"refused # #\n", &[why as u64, clock as u64]);
-    say_sentence(rt, out, n);
-    REFUSED
-}
-
-// Whether a verdict accepts.
-pub fn is_accepted(v: Verdict) -> bool {
-    match v {
-        Verdict::Accepted => true,
-        Verdict::Refused(_, _) => false,
-        Verdict::Intransitive {
-            place: _,
-            a: _,
-            b: _,
-            c: _,
-        } => false,
-    }
+pub fn refuse_table(rt: &(impl Print + Eprint), to: Stream, text: &[u8], fault: Fault) -> Stop {
+    let Fault { why, place } = fault;
+    let form = form_of(text);
+    refuse(rt, to, why, Some(place as u64), |out| {
+        explain(out, why, form, find(text, form, place))
+    })
 }

@@ -1,198 +1,150 @@
 // run and trace: every whole step that has arrived is answered before the program waits for more.
-use super::framing::Framing;
-use super::masks::{masks_left, take_masks};
-use super::say::{FINE, end_unread, say};
-use super::show::{Look, show_state, show_steps};
-use super::sizes::{carry, smaller, steps_in, whole_bytes};
-use super::stop::{Had, stop_at};
-use input::{Filled, read_on, turns_left};
-use runs::Played;
-use scheduler::fresh;
+ghost use Rattle.std.specs.Prelude.{◌≤◌, ◌<◌, length};
+
+use super::begin::{Asked, open_steps, take_asked};
+use super::call::Call;
+use super::masks::take_masks;
+use super::page::Page;
+use super::parts::{Flow, take_turns};
+use super::say::{Stop, Stream, say, unread};
+use super::show::{Look, look_of, refusals_to, show_state, show_steps};
+use super::steps::{fresh_state, say_threads, step_size};
+use super::stop::{Stuck, check_end, refuse_step};
+use super::words::want_more;
+use frame::Frame;
+use input::{Reach, read_on};
 use state::State;
 use std::io::Read;
+use std::rt::Runtime;
 use table::Table;
 
-// Where steps and masks come from, and whether the state is asked for.
+// A run: what it is of, how it is shown, whether the state is told at its end, where its steps and masks come from, and how far it is.
+// The bytes at the front of its buffer, an array by value for want of a heap, are of a step that is not whole.
 #[derive(Drop)]
-pub struct Sources<S> {
-    pub steps: S,
-    pub events: Option<S>,
-    pub state: bool,
-}
-
-// A run after a turn: its state, how many bytes are there of a step that is not whole, whether more may come, and the status where not.
-#[derive(Clone, Copy)]
-struct Turn {
-    state: State,
-    have: usize,
-    open: bool,
-    status: u8,
-}
-
-// The last lines of a run in which no step was refused.
-fn end(rt: &(impl Print + Eprint), t: Table, s: State, look: Look, state: bool) {
-    if look.bytes {
-        return;
-    }
-    say(rt, b"end #\n", &[s.clock as u64]);
-    if state {
-        show_state(rt, look, t, s);
-    }
-}
-
-// No more bytes come: a rest is a step short of bytes, and masks must not be left over.
-fn finish<S: Read>(
-    rt: &(impl Print + Eprint),
-    t: Table,
-    s: State,
+struct Running<'a, R, S> {
+    rt: &'a R,
+    table: Table,
+    frame: Option<Frame>,
     look: Look,
-    src: &mut Sources<S>,
+    tells_state: bool,
+    steps: S,
+    events: Option<S>,
+    state: State,
+    bytes: [u8; 128000],
     have: usize,
-) -> u8 {
-    let left = masks_left(&mut src.events);
-    if have == 0 {
-        if !left {
-            end(rt, t, s, look, src.state);
-            return FINE;
+    page: Page,
+    ghost within: { have ≤ 128000 },
+}
+
+impl<R: Print + Eprint, S: Read> Running<'_, R, S> {
+    fn stop(&self, stuck: Stuck) -> Stop {
+        refuse_step(
+            self.rt,
+            refusals_to(&self.look),
+            &self.table,
+            self.state.clock,
+            stuck,
+        )
+    }
+
+    // No more bytes come.
+    fn finish(&mut self) -> Result<Flow, Stop> {
+        if let Err(stuck) = check_end(&mut self.events, self.have) {
+            return Err(self.stop(stuck));
+        }
+        if self.look != Look::Bytes {
+            say(self.rt, format_args!("end {}\n", self.state.clock));
+            if self.tells_state {
+                show_state(self.rt, &self.look, &self.table, self.state);
+            }
+        }
+        Ok(Flow::Over)
+    }
+
+    // Plays the whole steps among the first n bytes and shows them; the rest goes to the front.
+    fn answer_whole(&mut self, n: usize) -> Result<Flow, Stop>
+        requires { n ≤ 128000 }
+    {
+        let count = step_size(&self.table);
+        let whole = n / count;
+        let end = n - n % count;
+        let mut masks = [0u32; 4000];
+        let mut trace = [0u8; 4000];
+        let clock = self.state.clock;
+        let came = take_masks(&mut self.events, &mut masks, whole);
+        let p = runs::run(
+            self.table,
+            self.frame,
+            self.state,
+            came.masks,
+            &self.bytes[..end],
+            &mut trace,
+        );
+        self.state = p.state;
+        let played = &trace[..p.n.min(4000)];
+        let shown = show_steps(self.rt, &self.look, &mut self.page, clock, played);
+        if let Some(why) = p.why {
+            let mask = came.mask(p.n);
+            return Err(self.stop(Stuck::Refused { why, mask }));
+        }
+        if let Err(stuck) = came.check(whole, count) {
+            return Err(self.stop(stuck));
+        }
+        self.bytes.copy_within(end..n, 0);
+        self.have = n - end;
+        shown?;
+        Ok(Flow::On)
+    }
+
+    // Reads what has arrived, up to 4,000 steps, and answers every whole step of it.
+    fn take_turn(&mut self) -> Result<Flow, Stop> {
+        let most = (4000 * step_size(&self.table)).min(128000);
+        let at = self.have.min(most);
+        let bytes = &mut self.bytes[..];
+        let got = read_on(&mut self.steps, &mut bytes[..most], at);
+        if at < got.count {
+            return self.answer_whole(got.count);
+        }
+        match got.reach {
+            Reach::Part | Reach::Interrupted(_) => Ok(Flow::On),
+            Reach::Whole => self.finish(),
+            Reach::Failed(error) => Err(unread(self.rt, "the steps", Some(error))),
         }
     }
-    let had = Had {
-        bytes: have,
-        rest: if left { 1 } else { 0 },
-        mask: 0,
+}
+
+// run, or trace, which shows bytes.
+pub fn run(rt: &impl Runtime, call: Call) -> Result<(), Stop> {
+    want_more(rt, 3, "a table and steps are wanted")?;
+    let Asked {
+        options: o,
+        frame,
+        events,
+    } = take_asked(rt, call, 4)?;
+    let to = match call {
+        Call::Trace => Stream::Complaints,
+        _ => Stream::Output,
     };
-    stop_at(rt, look.bytes, t, 13, s.clock, had)
-}
-
-// Nothing came: the read was interrupted, the input is at its end, or it failed.
-fn without_more<S: Read>(
-    rt: &(impl Print + Eprint),
-    t: Table,
-    s: State,
-    look: Look,
-    src: &mut Sources<S>,
-    got: Filled,
-) -> Turn {
-    let status = if got.open {
-        FINE
-    } else if got.whole {
-        finish(rt, t, s, look, src, got.count)
-    } else {
-        end_unread(rt, "the steps", got.error)
+    let (table, steps) = open_steps(rt, to, frame)?;
+    let look = match call {
+        Call::Trace => Look::Bytes,
+        _ => look_of(rt, &table, o.shown)?,
     };
-    Turn {
-        state: s,
-        have: got.count,
-        open: got.open,
-        status,
+    if look != Look::Bytes {
+        say_threads(rt, &table);
     }
-}
-
-// The number that ends a run after so many steps of those that are whole: a mask that is not there is 13.
-fn number_behind(p: Played, masks: usize, whole: usize) -> u8 {
-    if p.why != 0 {
-        return p.why;
-    }
-    if masks < whole { 13 } else { 0 }
-}
-
-fn mask_at(masks: &[u32], n: usize) -> u32 {
-    if n < masks.len() {
-        return masks[n];
-    }
-    0
-}
-
-// Plays the whole steps among the first n bytes and shows them; the rest goes to the front.
-fn answer_whole<S: Read>(
-    rt: &(impl Print + Eprint),
-    t: Table,
-    g: Framing,
-    s: State,
-    look: Look,
-    src: &mut Sources<S>,
-    n: usize,
-    steps: &mut [u8],
-    out: &mut [u8],
-) -> Turn {
-    let count = t.count;
-    let mut masks = [0u32; 4000];
-    let mut trace = [0u8; 4000];
-    let end = smaller(whole_bytes(n, count), steps.len());
-    let whole = steps_in(end, count);
-    let came = take_masks(&mut src.events, &mut masks, whole);
-    let m = smaller(came.masks, 4000);
-    let f = g.frame;
-    let p = runs::run(t, g.framed, f, s, &masks[..m], &steps[..end], &mut trace);
-    let state = p.state;
-    let k = smaller(p.n, 4000);
-    let open = show_steps(rt, look, out, s.clock, &trace[..k]);
-    let why = number_behind(p, m, whole);
-    if why != 0 {
-        let had = Had {
-            bytes: count as usize,
-            rest: came.rest,
-            mask: mask_at(&masks, k),
-        };
-        return Turn {
-            state,
-            have: 0,
-            open: false,
-            status: stop_at(rt, look.bytes, t, why, state.clock, had),
-        };
-    }
-    carry(steps, end, n);
-    Turn {
-        state,
-        have: n - end,
-        open,
-        status: FINE,
-    }
-}
-
-// Reads what has arrived, up to 4,000 steps, and answers every whole step of it.
-fn take_turn<S: Read>(
-    rt: &(impl Print + Eprint),
-    t: Table,
-    g: Framing,
-    s: State,
-    look: Look,
-    src: &mut Sources<S>,
-    have: usize,
-    steps: &mut [u8],
-    out: &mut [u8],
-) -> Turn {
-    let most = smaller(4000 * (t.count as usize), steps.len());
-    let at = smaller(have, most);
-    let got = read_on(&mut src.steps, &mut steps[..most], at);
-    let n = got.count;
-    if n == at {
-        return without_more(rt, t, s, look, src, got);
-    }
-    answer_whole(rt, t, g, s, look, src, n, steps, out)
-}
-
-// Turn after turn, from a fresh start. One that is open took a byte or was interrupted, and the clock allows 32,000,000,000 bytes.
-pub fn run_on<S: Read>(
-    rt: &(impl Print + Eprint),
-    t: Table,
-    g: Framing,
-    look: Look,
-    src: &mut Sources<S>,
-) -> u8 {
-    let mut steps = [0u8; 128000];
-    let mut out = [0u8; 65536];
-    let start = fresh(t);
-    let mut s = start.state;
-    let mut have = 0;
-    let mut status = FINE;
-    let mut turns = 1000000000000000000u64;
-    while 0 < turns {
-        let r = take_turn(rt, t, g, s, look, src, have, &mut steps, &mut out);
-        s = r.state;
-        have = r.have;
-        status = r.status;
-        turns = turns_left(turns, r.open);
-    }
-    status
+    let mut running = Running {
+        rt,
+        state: fresh_state(rt, to, &table)?,
+        table,
+        frame,
+        look,
+        tells_state: o.state,
+        steps,
+        events,
+        bytes: [0u8; 128000],
+        have: 0,
+        page: Page::new(),
+    };
+    take_turns(|| running.take_turn())
 }

@@ -1,50 +1,65 @@
 // The last line of a run that is refused, and its sentence.
-use super::refusal::refuse_step;
-use super::say::Stream;
+ghost use Rattle.std.specs.Prelude.{◌≡◌};
+ghost use Rattle.mikuzerao.specs.Refused.{refusal_of};
+
+use super::masks::masks_left;
+use super::refusal::refuse;
+use super::say::{Stop, Stream};
+use basis::Refusal;
 use sentence::{explain_event, explain_other, explain_short};
+use std::io::Read;
 use table::Table;
 
-// What a step had when it was refused: bytes of the number that it wants, bytes of its mask, and the mask.
-#[derive(Clone, Copy)]
-pub struct Had {
-    pub bytes: usize,
-    pub rest: usize,
-    pub mask: u32,
+// Why a step is not made: it has only so many bytes of the number that it wants, and so many of its mask, or it is refused with a mask.
+#[derive(Clone, Copy, Debug, PartialEq, Eq)]
+pub enum Stuck {
+    Short { bytes: usize, mask: usize },
+    Refused { why: Refusal, mask: u32 },
 }
 
-fn sentence_of(out: &mut [u8], t: Table, why: u8, clock: u32, had: Had) -> usize {
-    match why {
-        13 => explain_short(
-            out,
-            clock,
-            had.bytes as u64,
-            t.count as u64,
-            had.rest as u64,
-        ),
-        18 => explain_event(out, clock, had.mask, t),
-        _ => explain_other(out, why),
+impl From<Stuck> for Refusal {
+    ghost from_gives = { λ stuck why. why ≡ refusal_of stuck };
+
+    fn from(stuck: Stuck) -> Refusal {
+        match stuck {
+            Stuck::Short { bytes: _, mask: _ } => Refusal::StepBytes,
+            Stuck::Refused { why, mask: _ } => why,
+        }
     }
 }
 
-// Where the refusals of a call go: what a call prints in bytes, or as a table, is alone on standard output.
-pub fn refusals_to(bytes: bool) -> Stream {
-    if bytes {
-        Stream::Complaints
-    } else {
-        Stream::Output
+fn explain_stuck(out: &mut [u8], t: &Table, clock: u32, stuck: Stuck) -> usize {
+    match stuck {
+        Stuck::Short { bytes, mask } => {
+            explain_short(out, clock, bytes as u64, t.count as u64, mask as u64)
+        }
+        Stuck::Refused {
+            why: Refusal::EventMask,
+            mask,
+        } => explain_event(out, clock, mask, *t),
+        Stuck::Refused { why, mask: _ } => explain_other(out, why),
     }
 }
 
-// The refusal of a step; that of a trace goes to standard error.
-pub fn stop_at(
+// The refusal of a step.
+pub fn refuse_step(
     rt: &(impl Print + Eprint),
-    bytes: bool,
-    t: Table,
-    why: u8,
+    to: Stream,
+    t: &Table,
     clock: u32,
-    had: Had,
-) -> u8 {
-    let mut out = [0u8; 512];
-    let n = sentence_of(&mut out, t, why, clock, had);
-    refuse_step(rt, refusals_to(bytes), why, clock, &out, n)
+    stuck: Stuck,
+) -> Stop {
+    let why = Refusal::from(stuck);
+    refuse(rt, to, why, Some(clock as u64), |out| {
+        explain_stuck(out, t, clock, stuck)
+    })
+}
+
+// The steps are at their end: a rest is a step short of bytes, and masks must not be left over.
+pub fn check_end<S: Read>(events: &mut Option<S>, rest: usize) -> Result<(), Stuck> {
+    let mask = if masks_left(events) { 1 } else { 0 };
+    if rest == 0 && mask == 0 {
+        return Ok(());
+    }
+    Err(Stuck::Short { bytes: rest, mask })
 }

@@ -1,77 +1,84 @@
 // A table from a file, in bytes or in the comma form.
-ghost use Rattle.std.specs.Prelude.{◌≤◌, length};
-
-use super::files::{Source, end_file, open_named};
+use super::files::{Source, open_named, unread_word};
 use super::long::judge_long;
+use super::refusal::refuse_table;
+use super::say::{Stop, Stream};
+use basis::Refusal;
 use input::fill;
-use reader::{Reading, Verdict, refused_reading};
+use reader::Fault;
+use sentence::Form;
 use std::io::Read;
 use std::rt::Runtime;
+use table::Table;
 
 // What was read of a table's file, as much as a buffer holds, and the file itself, which may go on.
 #[derive(Drop)]
-pub struct Loaded<S> {
-    pub from: Option<S>,
-    pub len: usize,
+pub struct Loaded<'a, S> {
+    pub from: S,
+    pub text: &'a [u8],
 }
 
-// Reads the file that word i names; there is none after a line that says why not.
-pub fn load<R: Runtime>(rt: &R, i: usize, text: &mut [u8]) -> Loaded<Source<R::File, R::Reader>>
-    ensures { result.len ≤ length text.new }
-{
-    match open_named(rt, i) {
-        None => Loaded { from: None, len: 0 },
-        Some(source) => {
-            let mut from = source;
-            let f = fill(&mut from, text);
-            if f.whole {
-                return Loaded {
-                    from: Some(from),
-                    len: f.count,
-                };
-            }
-            end_file(rt, i, f.error);
-            Loaded { from: None, len: 0 }
-        }
+// Reads the file that word i names.
+pub fn load<'a, R: Runtime>(
+    rt: &R,
+    i: usize,
+    text: &'a mut [u8],
+) -> Result<Loaded<'a, Source<R::File, R::Reader>>, Stop> {
+    let mut from = open_named(rt, i)?;
+    let f = fill(&mut from, text);
+    if !f.reach.is_whole() {
+        return Err(unread_word(rt, i, f.reach.error()));
     }
+    Ok(Loaded {
+        from,
+        text: &text[..f.count],
+    })
 }
 
 // A file whose first byte is 32 or more is in the comma form.
-pub fn is_sheet(text: &[u8]) -> bool {
-    if text.len() == 0 {
-        return false;
+pub fn form_of(text: &[u8]) -> Form {
+    match text.first() {
+        Some(b) if 32 <= *b => Form::Sheet,
+        _ => Form::Bytes,
     }
-    32 <= text[0]
 }
 
-// A verdict on the first 65,536 characters is that on all of them, unless a field runs over their end.
-fn lengthen<S: Read>(from: &mut S, text: &[u8], r: Reading) -> Reading {
-    let v = r.verdict;
-    match v {
-        Verdict::Accepted => r,
-        Verdict::Refused(why, place) => {
-            if why != 1 {
-                return r;
-            }
-            refused_reading(Verdict::Refused(judge_long(from, text, place), place))
-        }
-        Verdict::Intransitive {
-            place: _,
-            a: _,
-            b: _,
-            c: _,
-        } => r,
+// A refusal of the first 65,536 characters is that of all of them, unless a field runs over their end.
+fn lengthen<S: Read>(from: &mut S, text: &[u8], fault: Fault) -> Fault {
+    if text.len() < 65536 || fault.why != Refusal::EndsEarly {
+        return fault;
+    }
+    Fault {
+        why: judge_long(from, text, fault.place),
+        place: fault.place,
     }
 }
 
 // The table of a file, or its refusal.
-pub fn judge<S: Read>(from: &mut S, text: &[u8]) -> Reading {
-    if !is_sheet(text) {
-        return codec::read(text);
+pub fn judge<S: Read>(from: &mut S, text: &[u8]) -> Result<Table, Fault> {
+    match form_of(text) {
+        Form::Bytes => codec::read(text),
+        Form::Sheet => match sheet::read(text) {
+            Ok(t) => Ok(t),
+            Err(fault) => Err(lengthen(from, text, fault)),
+        },
     }
-    let r = sheet::read(text);
-    if text.len() < 65536 {
-        return r;
+}
+
+// The table that word 2 names, and what is opened beside it, once the table is read and before it is refused.
+pub fn read_table<R: Runtime, T: Drop, F: FnOnce() -> Result<T, Stop>>(
+    rt: &R,
+    to: Stream,
+    beside: F,
+) -> Result<(Table, T), Stop>
+    requires { F.IsAlwaysCallable beside }
+{
+    let mut text = [0u8; 65536];
+    let Loaded { mut from, text } = load(rt, 2, &mut text)?;
+    let judged = judge(&mut from, text);
+    let opened = beside()?;
+    match judged {
+        Ok(t) => Ok((t, opened)),
+        Err(fault) => Err(refuse_table(rt, to, text, fault)),
     }
-    lengthen(from, text, r)
 }

@@ -1,67 +1,65 @@
 // The words behind the program's name.
-ghost use Rattle.std.specs.Prelude.{◌<◌};
+ghost use Rattle.std.specs.Prelude.{◌<◌, ◌≤◌};
 
-use super::say::end_wrong;
+use super::say::{Stop, wrong};
 use std::env::{Env, FillError};
-use typed::{Argument, Signed, number_of, signed_of};
+use typed::{number_of, signed_of};
 
-// Whether there is a word i.
+// Whether there is a word i. Words are asked for by their place: `env::args` refuses one that is not UTF-8, and takes memory for all.
 fn has_word(rt: &impl Env, i: usize) -> bool {
     let mut nothing = [0u8; 1];
-    match rt.arg(i, &mut nothing) {
-        Ok(_) => true,
-        Err(FillError::TooLong) => true,
-        Err(FillError::NotPresent) => false,
-    }
+    !matches!(rt.arg(i, &mut nothing), Err(FillError::NotPresent))
 }
 
 // How many words there are, with the program's name; 64 counts for more, for no call takes as many.
-pub fn count_words(rt: &impl Env) -> usize {
-    for i in 0..64usize {
-        if !has_word(rt, i) {
-            return i;
-        }
+pub fn count_words(rt: &impl Env) -> usize
+    ensures { result ≤ 64 }
+{
+    (0..64usize).find(|i| !has_word(rt, *i)).unwrap_or(64)
+}
+
+// What word i is taken for; one that is longer than any name or number is nothing.
+pub fn read_word<T, F: FnOnce(&[u8]) -> Option<T>>(rt: &impl Env, i: usize, read: F) -> Option<T>
+    requires { F.IsAlwaysCallable read }
+{
+    let mut word = [0u8; 64];
+    match rt.arg(i, &mut word) {
+        Ok(n) => read(&word[..n]),
+        Err(_) => None,
     }
-    64
 }
 
 // Whether word i is this one.
 pub fn is_word(rt: &impl Env, i: usize, name: &[u8]) -> bool {
-    let mut word = [0u8; 64];
-    match rt.arg(i, &mut word) {
-        Ok(n) => &word[..n] == name,
-        Err(_) => false,
-    }
+    read_word(rt, i, |word| (word == name).then_some(())).is_some()
 }
 
-// Word i as a number; one that is longer than any number is none.
-pub fn number_word(rt: &impl Env, i: usize) -> Argument {
-    let mut word = [0u8; 64];
-    match rt.arg(i, &mut word) {
-        Ok(n) => number_of(&word[..n]),
-        Err(_) => Argument::NoNumber,
-    }
+// Word i as a number.
+pub fn number_word(rt: &impl Env, i: usize) -> Option<u64> {
+    read_word(rt, i, number_of)
 }
 
 // Word i as a number with or without a sign.
-pub fn signed_word(rt: &impl Env, i: usize) -> Signed {
-    let mut word = [0u8; 64];
-    match rt.arg(i, &mut word) {
-        Ok(n) => signed_of(&word[..n]),
-        Err(_) => Signed {
-            number: false,
-            value: 0,
-        },
-    }
+pub fn signed_word(rt: &impl Env, i: usize) -> Option<i32> {
+    read_word(rt, i, signed_of)
 }
 
 // Just so many words stand behind the program's name.
-pub fn has_words(rt: &(impl Env + Eprint), n: usize) -> bool
+pub fn want_words(rt: &(impl Env + Eprint), n: usize) -> Result<(), Stop>
     requires { n < 64 }
 {
     if count_words(rt) == n + 1 {
-        return true;
+        return Ok(());
     }
-    end_wrong(rt, "too few or too many words");
-    false
+    Err(wrong(rt, "too few or too many words"))
+}
+
+// At least so many, of which each but the first is named by what is wanted.
+pub fn want_more(rt: &(impl Env + Eprint), n: usize, what: &str) -> Result<(), Stop>
+    requires { n < 64 }
+{
+    if n < count_words(rt) {
+        return Ok(());
+    }
+    Err(wrong(rt, what))
 }
