@@ -15,6 +15,10 @@ impl<const N: usize> Page<N> {
         &self.bytes[..self.len.min(N)]
     }
 
+    pub fn byte(&self, at: usize) -> u8 {
+        self.bytes[at % N]
+    }
+
     pub fn set(&mut self, at: usize, b: u8) {
         self.bytes[at % N] = b;
     }
