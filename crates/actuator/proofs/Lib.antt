@@ -1,4 +1,4 @@
-pub mod LevelLaws
+pub mod RangeLaws
 pub mod DriveLaws
 pub mod NumberLaws
 pub mod UniqueLaws

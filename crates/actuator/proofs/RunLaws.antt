@@ -19,7 +19,7 @@ use Rattle.actuator.specs.Drive.{Brought, Drove, commanded, moved_to, follows, d
 use Rattle.actuator.specs.Runs.{drives, actuators, actuator_after, position_after, steps_among, RangeKept, CommandKept, RateKept, Standing, ended, next, passed, again, BroughtStands, DistanceFalls, Between, NeverOvershoots, CallBetween}
 use Rattle.actuator.specs.Numbered.{InRange}
 use Rattle.actuator.specs.declared.Actuator.{Actuator}
-use Rattle.actuator.proofs.LevelLaws.{moved_in, ranged_position}
+use Rattle.actuator.proofs.RangeLaws.{moved_in, ranged_position}
 use Rattle.actuator.proofs.NumberLaws.{in_range_sound, drive_refused_keeps}
 use Rattle.actuator.proofs.MoveLaws.{distance_self, distance_by, between_self, between_through, move_short, move_nearer, move_between, Case, stays, goes, case_of}
 
@@ -55,7 +55,7 @@ module _ (t : Table) (mode : Mode) (b : Brought) (s : State) (a : Actuator) wher
     where
       go : Case t mode b s a → distance a.position (driven t mode b s a).actuator.position ≤ a.rate
       go (stays z e) = rw e (omega (arith, distance_self a.position))
-      go (goes c r f e) = rw e (move_short a.rate a.position c (ranged_position a r) f)
+      go (goes c r f e) = rw e (move_short a.rate a.position c)
 
   -- Where it is a step that leaves the command c, the distance to c falls by the rate or to 0.
   call_nearer : (c : ℤ) → (driven t mode b s a).told.number ≡ 0 → (driven t mode b s a).actuator.command ≡ c
@@ -67,7 +67,7 @@ module _ (t : Table) (mode : Mode) (b : Brought) (s : State) (a : Actuator) wher
       go (stays z e) = absurd (z n)
       go (goes x r f e) =
           let q : x ≡ c = sym (ap (λ (y : Actuator). y.command) e) ∙ k in
-          rw (e, ← q) (move_nearer a.rate a.position x (ranged_position a r) f)
+          rw (e, ← q) (move_nearer a.rate a.position x)
 
 -- The last command stays where the number brought is drawn to it.
 drawn_to_it : (t : Table) (mode : Mode) (b : Brought) (s : State) (a : Actuator) (c : ℤ) → a.command ≡ c → drawn b.command ≡ c
@@ -83,7 +83,7 @@ call_between t mode b s a = go (case_of t mode b s a)
   where
     go : Case t mode b s a → Between a.position (driven t mode b s a).actuator.command (driven t mode b s a).actuator.position
     go (stays z e) = rw e (between_self a.position a.command)
-    go (goes c r f e) = rw e (move_between a.rate a.position c (ranged_position a r) f)
+    go (goes c r f e) = rw e (move_between a.rate a.position c)
 
 -- What each call keeps of an actuator holds after every call of a run.
 kept-along : (t : Table) (mode : Mode) (P : Actuator → Type 0) → ((b : Brought) (s : State) (a : Actuator) → P a → P (driven t mode b s a).actuator)

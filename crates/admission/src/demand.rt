@@ -7,6 +7,7 @@ use basis::rounded_up;
 use table::{Table, Thread};
 
 // What thread h brings to own's demand in x steps.
+#[tactic(auto, using(crate::proofs::QuotientLaws::product_fits), unfolding(crate::specs::Demand::share, crate::specs::Demand::above, basis::specs::Tests::pick))]
 fn share(own: Thread, x: u32, h: Thread) -> u64
     requires { 1 ≤ h.period }
     ensures { result ≡ the-share own x h }

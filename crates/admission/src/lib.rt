@@ -45,6 +45,7 @@ pub struct Admission {
 }
 
 // Whether a table is legal; refuses with 11.
+#[tactic(auto, using(table::proofs::LegalLaws::legal_sound, basis::proofs::ListLaws::long_of), unfolding(basis::specs::Tests::pick))]
 fn lawful(t: Table) -> Result<(), Refusal>
     ensures told { told_done result ≡ pick (is_legal t) (answered []) (refused 11) }
     ensures ok { OnOk result (Legal t) }
@@ -56,6 +57,7 @@ fn lawful(t: Table) -> Result<(), Refusal>
 }
 
 // Whether a table is legal and has thread i; refuses with 11, 15.
+#[tactic(auto, using(crate::proofs::AskedLaws::lawful, crate::proofs::AskedLaws::not_lawful), unfolding(basis::specs::Tests::pick))]
 fn has_thread(t: Table, i: u8) -> Result<(), Refusal>
     ensures told { told_done result ≡ pick (is_legal t) (pick (ltb i t.count) (answered []) (refused 15)) (refused 11) }
     ensures ok { OnOk result (Legal t × (i < t.count)) }
@@ -68,6 +70,7 @@ fn has_thread(t: Table, i: u8) -> Result<(), Refusal>
 }
 
 // All bounds, or the first thread that has none; refuses with 11.
+#[tactic(auto, using(crate::proofs::AskedLaws::lawful, crate::proofs::AskedLaws::not_lawful, crate::proofs::AskedLaws::told_alike), unfolding(crate::specs::Admit::admitting, crate::specs::Admit::bounds_given, crate::specs::Admit::counts_given, basis::specs::Tests::pick))]
 pub fn admit(t: Table) -> Result<Admission, Refusal>
     ensures { (told-admitting result ≡ admitting t) × (bounds_in result ≡ bounds_given t) × (counts_in result ≡ counts_given t) }
 {
@@ -76,6 +79,7 @@ pub fn admit(t: Table) -> Result<Admission, Refusal>
 }
 
 // The bound of thread i, or none; refuses with 11, 15.
+#[tactic(auto, using(crate::proofs::AskedLaws::asked, crate::proofs::AskedLaws::refused_as, crate::proofs::AskedLaws::told_alike), unfolding(crate::specs::Bounded::bounding, crate::specs::Tried::count_given, basis::specs::Tests::pick))]
 pub fn bound_of(t: Table, i: u8) -> Result<Search, Refusal>
     ensures { (told result ≡ bounding t i) × (count_in result ≡ count_given t i) }
 {
@@ -84,6 +88,7 @@ pub fn bound_of(t: Table, i: u8) -> Result<Search, Refusal>
 }
 
 // The worst count of a table, with no search: D - W + 1 lengths for each thread; refuses with 11.
+#[tactic(auto, using(crate::proofs::AskedLaws::lawful, crate::proofs::AskedLaws::not_lawful), unfolding(crate::specs::Worst::worst_given, basis::specs::Tests::pick))]
 pub fn worst_count(t: Table) -> Result<u32, Refusal>
     ensures { told_number result ≡ worst_given t }
 {
@@ -92,6 +97,7 @@ pub fn worst_count(t: Table) -> Result<u32, Refusal>
 }
 
 // The prohibition time of thread l; refuses with 11, 15.
+#[tactic(auto, using(crate::proofs::AskedLaws::asked, crate::proofs::AskedLaws::refused_as), unfolding(crate::specs::Prohibition::prohibiting, basis::specs::Tests::pick))]
 pub fn prohibition(t: Table, l: u8) -> Result<u64, Refusal>
     ensures { told_number result ≡ prohibiting t l }
 {
@@ -100,6 +106,7 @@ pub fn prohibition(t: Table, l: u8) -> Result<u64, Refusal>
 }
 
 // The most steps, in any `length` steps in a row from a fresh start, that the processor idles on thread h's account; refuses with 11, 15.
+#[tactic(auto, using(crate::proofs::AskedLaws::asked, crate::proofs::AskedLaws::refused_as), unfolding(crate::specs::IdleMost::idling, basis::specs::Tests::pick))]
 pub fn idle_most(t: Table, h: u8, length: u32) -> Result<u64, Refusal>
     ensures { told_number result ≡ idling t h length }
 {

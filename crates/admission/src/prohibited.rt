@@ -7,6 +7,7 @@ use basis::rounded_up;
 use table::{Table, Thread, mark_all};
 
 // What thread h, marked or not, brings to own's prohibition time: B for each of its releases in own's period.
+#[tactic(auto, using(crate::proofs::QuotientLaws::product_fits), unfolding(crate::specs::Prohibition::stretch, crate::specs::Demand::above, basis::specs::Tests::pick))]
 fn stretch(own: Thread, marked: bool, h: Thread) -> u64
     requires { (1 ≤ own.period) × (1 ≤ h.period) }
     ensures { result ≡ the-stretch own marked h }

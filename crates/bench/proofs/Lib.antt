@@ -1,5 +1,4 @@
 pub mod PlayLaws
 pub mod ChunkLaws
 pub mod BlockLaws
-pub mod CarryLaws
 pub mod TurnLaws

@@ -22,9 +22,7 @@ fn run(rt: &(impl Print + Eprint + Input), t: Table)
     let mut steps = [0u8; 128000];
     let mut out = [0u8; 65536];
     let mut from = rt.reader();
-    let Ok(mut s) = fresh(t) else {
-        unreachable!()
-    };
+    let Ok(mut s) = fresh(t) else { unreachable!() };
     let mut have = 0;
     let mut turns = turns_left(1000000000000000000, say_threads(rt, &mut out, t.count));
     while 0 < turns {

@@ -1,15 +1,11 @@
 -- Stretches one after the other are one.
-use Prim.Native.Nat.{ℕ, zero, suc, ◌+◌, ◌≤◌, ◌<◌}
+use Prim.Native.Nat.{ℕ, zero, suc, ◌+◌, ◌<◌}
 use mathlib.Core.Path.{◌≡◌, sym, ◌∙◌, ap}
 use mathlib.Core.List.{List, [], ◌∷◌, ◌++◌, map, map-append, append_assoc, append-nil}
 use native.Mathlib.Omega.{arith}
-use native.Mathlib.Nat.{add-zero, add-suc, zero-add, le_refl}
+use native.Mathlib.Nat.{add-zero, add-suc, zero-add}
 use lib.ListN.{length}
 use lib.Seq.{sets}
-use lib.Dec.{ltb}
-use borrow.Author.Tests.{ltb-true, ltb-false}
-use Rattle.basis.specs.Tests.{pick}
-use Rattle.basis.proofs.TestLaws.{either, both_ways}
 use Rattle.basis.specs.Search.{listed}
 use Rattle.basis.specs.Turns.{in_turn}
 use Rattle.basis.proofs.TurnLaws.{turns_join, after_join}

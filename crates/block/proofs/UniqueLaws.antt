@@ -4,7 +4,7 @@ use mathlib.Core.Path.{◌≡◌, refl, sym, ◌∙◌, ap}
 use mathlib.Core.List.{List, []}
 use native.Mathlib.Omega.{arith}
 use Rattle.std.specs.Prelude.{Result, Ok, Err}
-use Rattle.basis.specs.Refusals.{number, values, refused_by, number_or_0}
+use Rattle.basis.specs.Refusals.{number, values, number_or_0}
 use Rattle.basis.specs.declared.refusal.Refusal.{Refusal}
 use Rattle.basis.specs.declared.refusal.Refusal.TheVariants.{EndsEarly, NotShortest, TooLarge, Version, Count, Row, Intransitive, Field, PriorityTaken, Extra, NotLegal, NotFitting, StepBytes, LastClock, Missing, NoRoom, EventMask, Frame, Actuator, TraceByte}
 use Rattle.basis.proofs.RefusalLaws.{refused-apart, number-positive}
@@ -13,7 +13,7 @@ use Rattle.state.specs.declared.State.{State}
 use Rattle.frame.specs.Mode.{Mode}
 use Rattle.block.specs.declared.Ended.{Ended}
 use Rattle.block.specs.Block.{Blocked, block, recorded, next_of, blocked_of}
-use Rattle.block.specs.Numbered.{BlockNumbered, not-legal, bad-frame, not-fitting, not-whole, no_event, too_late, no_room, makes}
+use Rattle.block.specs.Numbered.{BlockNumbered}
 use Rattle.block.proofs.RecordLaws.{recorded-front}
 use Rattle.block.proofs.NumberLaws.{block_number_exactly}
 
@@ -39,7 +39,7 @@ valueless Frame d = refl
 valueless Actuator d = refl
 valueless TraceByte d = refl
 
-refusal_known : (why other : Refusal) → number why ≡ number other → (number why ≡ 7 → ⊥) → why ≡ other
+pub refusal_known : (why other : Refusal) → number why ≡ number other → (number why ≡ 7 → ⊥) → why ≡ other
 refusal_known why other e d =
     let v : values why ≡ values other = valueless why d ∙ sym (valueless other (λ q. d (e ∙ q))) in
     refused-apart why other (λ i. record { number = e i; values = v i })
@@ -50,23 +50,18 @@ outcome_known (Ok a) (Err why) e f d = absurd (let p : 0 < number why = number-p
 outcome_known (Err why) (Ok b) e f d = absurd (let p : 0 < number why = number-positive why in omega arith)
 outcome_known (Err why) (Err other) e f d = ap Err (refusal_known why other e d)
 
-never_7 : (t : Table) (mode : Mode) (masks bs : List ℕ) (s : State) (out : List ℕ) (at n : ℕ) → BlockNumbered t mode masks bs s out at n → n ≡ 7 → ⊥
-never_7 t mode masks bs s out at n (not-legal a) e = omega arith
-never_7 t mode masks bs s out at n (bad-frame a o) e = omega arith
-never_7 t mode masks bs s out at n (not-fitting a o b) e = omega arith
-never_7 t mode masks bs s out at n (not-whole a o b c) e = omega arith
-never_7 t mode masks bs s out at n (no_event a o b c m) e = omega arith
-never_7 t mode masks bs s out at n (too_late a o b c m d) e = omega arith
-never_7 t mode masks bs s out at n (no_room a o b c m d r) e = omega arith
-never_7 t mode masks bs s out at n (makes a o b c m d r) e = omega arith
+never_7 : (t : Table) (mode : Mode) (masks bs : List ℕ) (s : State) (out : List ℕ) (at : ℕ) → (recorded t mode masks bs s out at).number ≡ 7 → ⊥
+never_7 t mode masks bs s out at e = none ((block_number_exactly t mode masks bs s out at 7).0 e)
+  where
+    none : BlockNumbered t mode masks bs s out at 7 → ⊥
+    none r = elim r [ ]
 
 module _ (t : Table) (mode : Mode) (masks bs : List ℕ) (s : State) where
   pub record_unique : (out : List ℕ) (at : ℕ) (r q : Ended) (x y : List ℕ) → blocked_of r x ≡ recorded t mode masks bs s out at
       → blocked_of q y ≡ recorded t mode masks bs s out at → (r ≡ q) × (x ≡ y)
   record_unique out at r q x y e f =
       let g : blocked_of r x ≡ blocked_of q y = e ∙ sym f in
-      let seven : number_or_0 r.outcome ≡ 7 → ⊥ = λ z.
-      never_7 t mode masks bs s out at 7 ((block_number_exactly t mode masks bs s out at 7).0 (sym (ap (λ (w : Blocked). w.number) e) ∙ z)) refl in
+      let seven : number_or_0 r.outcome ≡ 7 → ⊥ = λ z. never_7 t mode masks bs s out at (sym (ap (λ (w : Blocked). w.number) e) ∙ z) in
       let o : r.outcome ≡ q.outcome = outcome_known _ _ (ap (λ (w : Blocked). w.number) g) (ap (λ (w : Blocked). w.next) g) seven in
       ((λ i. record { outcome = o i; state = ap (λ (w : Blocked). w.state) g i }), ap (λ (w : Blocked). w.part) g)
 

@@ -18,7 +18,6 @@ use Rattle.state.specs.Methods.{paid, pay, finish, counted, count}
 use Rattle.state.specs.Given.{Counted}
 use Rattle.state.specs.declared.Progress.{Progress}
 use Rattle.state.specs.declared.State.{State}
-use Rattle.order.specs.Order.{Below}
 use Rattle.walk.specs.Walk.{heard, runs, walked, decided, visit, chosen, walk}
 use Rattle.walk.specs.declared.Answer.TheVariants.{Ran, IdleFor, Idle}
 use Rattle.walk.specs.declared.Walked.{Walked}

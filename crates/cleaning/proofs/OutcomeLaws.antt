@@ -2,7 +2,7 @@
 use Prim.Native.Nat.{ℕ, ◌<◌, ◌≤◌}
 use mathlib.Core.Path.{◌≡◌, refl, sym, ◌∙◌, ap}
 use mathlib.Core.List.{List, [], ◌∷◌}
-use mathlib.Core.Bool.{true, false}
+use mathlib.Core.Bool.{false≢true, true, false}
 use native.Mathlib.Omega.{arith}
 use borrow.Author.Tests.{ltb-true, ltb-false, lt-ltb, le-ltb, le-leb, lt-leb}
 use lib.Dec.{eqb, ltb, leb}
@@ -15,30 +15,33 @@ use Rattle.basis.proofs.TestLaws.{by_test, either}
 use Rattle.table.specs.Legal.{legal}
 use Rattle.table.specs.declared.Table.{Table}
 use Rattle.cleaning.specs.declared.Cleaning.{Cleaning}
-use Rattle.cleaning.specs.declared.Report.{Report}
-use Rattle.cleaning.specs.declared.Report.TheVariants.{Cleaned, NotLegal, NoThread, NoRoom}
+use Rattle.std.specs.Prelude.{Result, Ok, Err, is_ok, IsErrAnd}
+use Rattle.basis.specs.Refusals.{given_or}
+use Rattle.basis.specs.declared.refusal.Refusal.{Refusal}
+use Rattle.basis.specs.declared.refusal.Refusal.TheVariants.{NotLegal, NoRoom, TraceByte}
+use Rattle.basis.proofs.RefusalLaws.{number-apart}
 use Rattle.cleaning.specs.Cleanings.{cleanings, all_known, Outcome, listing, told, outcome}
-use Rattle.cleaning.specs.Scan.{Ways, scanned, pasted, tallied, reported, entries}
+use Rattle.cleaning.specs.Scan.{Ways, scanned, pasted, tallied, reported}
 use Rattle.cleaning.proofs.WayLaws.{scanned-is}
 
 -- What one pass tells of a legal table.
 module _ (t : Table) (w tr : List ℕ) (g : legal t ≡ true) (s : Ways t w) where
-  tallied_named : all_known t.count tr ≡ true → tallied t.count w tr ≡ Cleaned (length (cleanings t tr))
+  tallied_named : all_known t.count tr ≡ true → tallied t.count w tr ≡ Ok (length (cleanings t tr))
   unfolding tallied pick
-  tallied_named f = rw f (ap (λ (l : List Cleaning). Cleaned (length l)) (scanned-is t g w s tr))
+  tallied_named f = rw f (ap (λ (l : List Cleaning). Ok (length l)) (scanned-is t g w s tr))
 
-  tallied_unnamed : all_known t.count tr ≡ false → tallied t.count w tr ≡ NoThread
+  tallied_unnamed : all_known t.count tr ≡ false → tallied t.count w tr ≡ Err TraceByte
   unfolding tallied pick
   tallied_unnamed f = rw f
 
-  pub short-of : (places : ℕ) → places < entries (tallied t.count w tr) → NoRoom ≡ reported t tr places
+  pub short-of : (places : ℕ) → places < given_or 0 (tallied t.count w tr) → Err NoRoom ≡ reported t tr places
   unfolding reported pick
   short-of places l =
       by_test (all_known t.count tr)
       (λ f. let m : places < length (cleanings t tr) = rw (tallied_named f) at l in rw (g, f, lt-ltb places (length (cleanings t tr)) m))
       (λ f. let m : places < 0 = rw (tallied_unnamed f) at l in absurd (omega arith))
 
-  pub room_for : (places : ℕ) → entries (tallied t.count w tr) ≤ places → tallied t.count w tr ≡ reported t tr places
+  pub room_for : (places : ℕ) → given_or 0 (tallied t.count w tr) ≤ places → tallied t.count w tr ≡ reported t tr places
   unfolding reported pick
   room_for places l =
       by_test (all_known t.count tr)
@@ -46,8 +49,8 @@ module _ (t : Table) (w tr : List ℕ) (g : legal t ≡ true) (s : Ways t w) whe
       (λ f. rw (g, f) (tallied_unnamed f))
 
 -- What an answer lets `fill` do, where the scan is handed w.
-abbrev May : Table → List ℕ → List ℕ → ℕ → Report → Type 0
-May t w tr places r = (entries r ≤ places) × (entries r ≤ length (scanned t.count w tr))
+abbrev May : Table → List ℕ → List ℕ → ℕ → Result ℕ Refusal → Type 0
+May t w tr places r = (given_or 0 r ≤ places) × (given_or 0 r ≤ length (scanned t.count w tr))
 
 nothing_asked : (places n : ℕ) → (0 ≤ places) × (0 ≤ n)
 nothing_asked places n = (omega arith, omega arith)
@@ -55,7 +58,7 @@ nothing_asked places n = (omega arith, omega arith)
 pub may_fill : (t : Table) (w tr : List ℕ) (places : ℕ) → Ways t w → May t w tr places (reported t tr places)
 unfolding reported
 may_fill t w tr places s =
-    let P : Report → Type 0 = May t w tr places in
+    let P : Result ℕ Refusal → Type 0 = May t w tr places in
     either P (legal t)
     (λ g. either P (all_known t.count tr)
     (λ _. either P (ltb places (length (cleanings t tr))) (λ _. nothing_asked places _) (λ e. (ltb-false _ _ e, omega (arith, ap length (scanned-is t g w s tr)))))
@@ -64,7 +67,7 @@ may_fill t w tr places s =
 
 -- Answer and list together are the definition's.
 whole-outcome : (t : Table) (w tr : List ℕ) (ys : List Cleaning) → Ways t w
-    → outcome (reported t tr (length ys)) (pasted (entries (reported t tr (length ys))) (scanned t.count w tr) ys) ≡ listing t tr ys
+    → outcome (reported t tr (length ys)) (pasted (given_or 0 (reported t tr (length ys))) (scanned t.count w tr) ys) ≡ listing t tr ys
 unfolding reported listing pasted pick
 whole-outcome t w tr ys s =
     by_test (legal t)
@@ -75,9 +78,28 @@ whole-outcome t w tr ys s =
     (λ f. rw (e, f)))
     (λ e. rw e)
 
-pub outcome-is : (t : Table) (w tr : List ℕ) (ys zs : List Cleaning) (r : Report) → Ways t w → r ≡ reported t tr (length ys) → zs ≡ pasted (entries r) (scanned t.count w tr) ys
+pub outcome-is : (t : Table) (w tr : List ℕ) (ys zs : List Cleaning) (r : Result ℕ Refusal) → Ways t w → r ≡ reported t tr (length ys) → zs ≡ pasted (given_or 0 r) (scanned t.count w tr) ys
     → outcome r zs ≡ listing t tr ys
 outcome-is t w tr ys zs r s e f = rw (f, e) (whole-outcome t w tr ys s)
+
+-- An error that is handed on is the one that came.
+pub handed : (r : Result ℕ Refusal) (e : Refusal) (q : Result ℕ Refusal) → IsErrAnd r (λ x. x ≡ e) → Err e ≡ q → r ≡ q
+handed (Ok n) e q h f = absurd h
+handed (Err x) e q h f = ap Err h ∙ f
+
+-- Of a refusal no list is written.
+pub refused-outcome : (t : Table) (tr : List ℕ) (ys : List Cleaning) (r : Result ℕ Refusal) → is_ok r ≡ false → r ≡ reported t tr (length ys) → outcome r ys ≡ listing t tr ys
+unfolding reported listing pick
+refused-outcome t tr ys r n e =
+    let q : is_ok (reported t tr (length ys)) ≡ false = rw e at n in
+    rw e
+    (by_test (legal t)
+    (λ a. by_test (all_known t.count tr)
+    (λ b. by_test (ltb (length ys) (length (cleanings t tr)))
+    (λ d. rw (a, b, d, lt-leb (length (cleanings t tr)) (length ys) (ltb-true _ _ d)))
+    (λ d. let z : true ≡ false = rw (a, b, d) at q in absurd (false≢true (sym z))))
+    (λ b. rw (a, b)))
+    (λ a. rw a))
 
 -- A refused call leaves the list as it was.
 pub clean_refused : (t : Table) (tr : List ℕ) (ys : List Cleaning) → 0 < (listing t tr ys).told.number → (listing t tr ys).list ≡ ys
@@ -90,23 +112,8 @@ clean_refused t tr ys =
     (λ _ h. refl))
     (λ _ h. refl)
 
--- A result of the code can be read back from what it tells: no second one fits.
-one : List ℕ → ℕ
-one [] = 0
-one (v ∷ vs) = v
-
-back : Told → Report
-unfolding one pick
-back t = pick (eqb t.number 11) NotLegal (pick (eqb t.number 21) NoThread (pick (eqb t.number 16) NoRoom (Cleaned (one t.values))))
-
-back_told : (r : Report) → back (told r) ≡ r
-unfolding back
-back_told (Cleaned n) = refl
-back_told NotLegal = refl
-back_told NoThread = refl
-back_told NoRoom = refl
-
-pub clean_unique : (t : Table) (tr : List ℕ) (ys : List Cleaning) (r s : Report) (p q : List Cleaning) → outcome r p ≡ listing t tr ys → outcome s q ≡ listing t tr ys → (r ≡ s) × (p ≡ q)
+-- No second result fits.
+pub clean_unique : (t : Table) (tr : List ℕ) (ys : List Cleaning) (r s : Result ℕ Refusal) (p q : List Cleaning) → outcome r p ≡ listing t tr ys → outcome s q ≡ listing t tr ys → (r ≡ s) × (p ≡ q)
 clean_unique t tr ys r s p q e f =
     let o : outcome r p ≡ outcome s q = e ∙ sym f in
-    (undone told back back_told r s (ap (λ (x : Outcome). x.told) o), ap (λ (x : Outcome). x.list) o)
+    (number-apart r s (ap (λ (x : Outcome). x.told) o), ap (λ (x : Outcome). x.list) o)

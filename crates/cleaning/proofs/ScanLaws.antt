@@ -3,7 +3,8 @@ use mathlib.Core.Path.{◌≡◌, refl, sym, ◌∙◌, ap}
 use Prim.Native.Nat.{ℕ, zero, suc, ◌+◌, ◌<◌, ◌≤◌}
 use native.Mathlib.Numerals.{add-one}
 use native.Mathlib.Omega.{arith}
-use mathlib.Core.Bool.{Bool, true, false}
+use mathlib.Core.Bool.{Bool, true, false, false≢true}
+use Rattle.std.specs.Prelude.{◌≢◌, Option, Some, None, is_some, unwrap_or}
 use mathlib.Core.List.{List, [], ◌∷◌, ◌++◌}
 use lib.Dec.{ltb}
 use lib.ListN.{length, get_or, set, take, drop, drop_of_length-le}
@@ -20,30 +21,39 @@ opened : (tr : List ℕ) (i : ℕ) → i < length tr → drop i tr ≡ get_or tr
 opened tr i l = rw (add-one, drop-cons tr i 0)
 
 -- F says of each cleaning what follows it.
-abbrev Chained : (Cleaning → Cleaning) → List Cleaning → Type 0
+abbrev Chained : (Cleaning → Option Cleaning) → List Cleaning → Type 0
 Chained F [] = Unit {0}
 Chained F (c ∷ cs) = (F c ≡ first cs) × Chained F cs
 
+its : {c d : Cleaning} → Some d ≡ Some c → d ≡ c
+its {c = c} e = ap (λ (o : Option Cleaning). unwrap_or o c) e
+
+-- A list has a first of those behind fewer places than it has.
+pub first_there : (k : ℕ) (cs : List Cleaning) → k < length cs → first (drop k cs) ≢ None
+first_there k [] l e = absurd (omega arith)
+first_there zero (c ∷ cs) l e = let b : true ≡ false = ap (λ (o : Option Cleaning). is_some o) e in false≢true (sym b)
+first_there (suc k) (c ∷ cs) l e = first_there k cs (omega arith) e
+
 -- F gives what stands behind place k.
-chained_at : (F : Cleaning → Cleaning) (k : ℕ) (cs : List Cleaning) → Chained F cs → k < length cs → F (first (drop k cs)) ≡ first (drop (suc k) cs)
-chained_at F k [] ch l = absurd (omega arith)
-chained_at F zero (c ∷ cs) ch l = ch.0
-chained_at F (suc k) (c ∷ cs) ch l = chained_at F k cs ch.1 (omega arith)
+chained_at : (F : Cleaning → Option Cleaning) (k : ℕ) (cs : List Cleaning) (d : Cleaning) → Chained F cs → k < length cs → Some d ≡ first (drop k cs) → F d ≡ first (drop (suc k) cs)
+chained_at F k [] d ch l e = absurd (omega arith)
+chained_at F zero (c ∷ cs) d ch l e = ap F (its e) ∙ ch.0
+chained_at F (suc k) (c ∷ cs) d ch l e = chained_at F k cs d ch.1 (omega arith) e
 
 -- The cleaning of place k, stored behind the first k.
-stored : (k : ℕ) (cs ys : List Cleaning) → k < length cs → k < length ys → set (take k cs ++ drop k ys) k (first (drop k cs)) ≡ take (suc k) cs ++ drop (suc k) ys
-stored k [] ys l m = absurd (omega arith)
-stored k (c ∷ cs) [] l m = absurd (omega arith)
-stored zero (c ∷ cs) (y ∷ ys) l m = refl
-stored (suc k) (c ∷ cs) (y ∷ ys) l m = ap (◌∷◌ c) (stored k cs ys (omega arith) (omega arith))
+stored : (k : ℕ) (cs ys : List Cleaning) (d : Cleaning) → k < length cs → k < length ys → Some d ≡ first (drop k cs) → set (take k cs ++ drop k ys) k d ≡ take (suc k) cs ++ drop (suc k) ys
+stored k [] ys d l m e = absurd (omega arith)
+stored k (c ∷ cs) [] d l m e = absurd (omega arith)
+stored zero (c ∷ cs) (y ∷ ys) d l m e = ap (λ (x : Cleaning). x ∷ ys) (its e)
+stored (suc k) (c ∷ cs) (y ∷ ys) d l m e = ap (◌∷◌ c) (stored k cs ys d (omega arith) (omega arith) e)
 
 pub pasted_none : (cs ys : List Cleaning) → ys ≡ pasted 0 cs ys
 unfolding pasted
 pasted_none cs ys = refl
 
-pub pasted_more : (k : ℕ) (cs ys zs : List Cleaning) (c : Cleaning) → k < length cs → k < length ys → zs ≡ pasted k cs ys → c ≡ first (drop k cs) → set zs k c ≡ pasted (k + 1) cs ys
+pub pasted_more : (k : ℕ) (cs ys zs : List Cleaning) (c : Cleaning) → k < length cs → k < length ys → zs ≡ pasted k cs ys → Some c ≡ first (drop k cs) → set zs k c ≡ pasted (k + 1) cs ys
 unfolding pasted
-pasted_more k cs ys zs c l m e f = rw (e, f, add-one) (stored k cs ys l m)
+pasted_more k cs ys zs c l m e f = rw (e, add-one) (stored k cs ys c l m f)
 
 -- A byte that is to be cleaned at is a thread's: so who last ran after it is that thread.
 barred-runs : (n : ℕ) (w : List ℕ) (a b : ℕ) → barred n w a b ≡ true → latest n a b ≡ b
@@ -64,9 +74,9 @@ chained n w tr (b ∷ bs) j a e =
     (λ m. more)
 
 -- What follows the cleaning of place k of a scan.
-pub followed : (n : ℕ) (w tr : List ℕ) (k : ℕ) (c : Cleaning) → k < length (scanned n w tr) → c ≡ first (drop k (scanned n w tr)) → following n w tr c ≡ first (drop (k + 1) (scanned n w tr))
+pub followed : (n : ℕ) (w tr : List ℕ) (k : ℕ) (c : Cleaning) → k < length (scanned n w tr) → Some c ≡ first (drop k (scanned n w tr)) → following n w tr c ≡ first (drop (k + 1) (scanned n w tr))
 unfolding scanned
-followed n w tr k c l e = rw (e, add-one) (chained_at (following n w tr) k (cleaned (barred n w) n 0 nobody tr) (chained n w tr tr 0 nobody refl) l)
+followed n w tr k c l e = rw add-one (chained_at (following n w tr) k (cleaned (barred n w) n 0 nobody tr) c (chained n w tr tr 0 nobody refl) l e)
 
 -- At one byte of the trace.
 module _ (must : ℕ → ℕ → Bool) (n : ℕ) (tr : List ℕ) (i a : ℕ) (l : i < length tr) where

@@ -1,5 +1,5 @@
 -- The cleanings of a recorded trace, in the bytes of the block run: i is thread i, 32 + i is idle for i, 255 is idle.
-use Rattle.std.specs.Prelude.{ℕ, ◌+◌, List, [], ◌∷◌, ◌++◌, Bool, true, not, length, drop, eqb, ltb, leb}
+use Rattle.std.specs.Prelude.{Result, ℕ, ◌+◌, List, [], ◌∷◌, ◌++◌, Bool, true, not, length, drop, eqb, ltb, leb}
 use Rattle.basis.specs.Tests.{pick, and, or}
 use Rattle.basis.specs.Told.{Told, answered, refused}
 use Rattle.flow.specs.Flow.{flows}
@@ -7,8 +7,8 @@ use Rattle.table.specs.Legal.{legal}
 use Rattle.table.specs.Threads.{thread}
 use Rattle.table.specs.declared.Table.{Table}
 use Rattle.cleaning.specs.declared.Cleaning.{Cleaning}
-use Rattle.cleaning.specs.declared.Report.{Report}
-use Rattle.cleaning.specs.declared.Report.TheVariants.{Cleaned, NotLegal, NoThread, NoRoom}
+use Rattle.basis.specs.Refusals.{told_number}
+use Rattle.basis.specs.declared.refusal.Refusal.{Refusal}
 
 -- Where no thread has run yet.
 abbrev pub nobody : ℕ

@@ -3,7 +3,7 @@
 
 ghost use Rattle.std.specs.Prelude.{◌≡◌, ◌≤◌, length, drop};
 ghost use Rattle.cleaning.specs.Cleanings.{nobody, latest, last_run, cleaned, known, listing, outcome};
-ghost use Rattle.cleaning.specs.Scan.{none, first, Ways, passes, barred, scanned, following, pasted, tallied, reported};
+ghost use Rattle.cleaning.specs.Scan.{first, Ways, passes, barred, scanned, following, pasted, tallied, reported};
 
 use basis::Refusal;
 use flow::row;
@@ -17,28 +17,16 @@ pub struct Cleaning {
     pub after: u8,
 }
 
-fn no_cleaning() -> Cleaning
-    ensures { result ≡ none }
-{
-    Cleaning {
-        step: 0,
-        before: 0,
-        after: 0,
-    }
-}
-
 // The domain of each thread, and 32 places on the row of that domain: lent to the scan, so that no step copies a table.
 fn ways_of(t: Table) -> [u16; 64]
     ensures { Ways t result }
 {
     let rows = t.rows;
     let mut w = [0u16; 64];
-    let mut i: usize = 0;
-    while i < 32 {
+    for i in 0..32usize {
         let th = t.threads[i];
         w[i] = th.domain as u16;
         w[32 + i] = row(rows, th.domain);
-        i += 1;
     }
     w
 }
@@ -57,65 +45,52 @@ fn may_pass(w: &[u16; 64], a: u8, b: u8) -> bool
 fn must_clean(n: u8, w: &[u16; 64], a: u8, b: u8) -> bool
     ensures { result ≡ barred n w.now a b }
 {
-    if n <= b {
-        return false;
-    }
-    if n <= a {
-        return false;
-    }
-    if a == b {
-        return false;
-    }
-    !may_pass(w, a, b)
+    b < n && a < n && a != b && !may_pass(w, a, b)
 }
 
 // Who last ran after a byte.
+#[tactic(auto, unfolding(crate::specs::Cleanings::latest, basis::specs::Tests::pick))]
 fn latest_of(n: u8, last: u8, byte: u8) -> u8
     ensures { result ≡ latest n last byte }
 {
-    if n <= byte {
-        return last;
-    }
-    byte
+    if byte < n { byte } else { last }
 }
 
-// The first cleaning at or after a step, where thread `last` ran before it.
-fn scan(n: u8, w: &[u16; 64], trace: &[u8], from: usize, last: u8) -> Cleaning
+// The first cleaning at or after a step, if there is one, where thread `last` ran before it.
+fn scan(n: u8, w: &[u16; 64], trace: &[u8], from: usize, last: u8) -> Option<Cleaning>
     ensures { result ≡ first (cleaned (barred n w.now) n from last (drop from trace.now)) }
 {
-    let mut i = from;
     let mut a = last;
-    while i < trace.len() {
+    for i in from..trace.len() {
         let b = trace[i];
         if must_clean(n, w, a, b) {
-            return Cleaning {
+            return Some(Cleaning {
                 step: i as u64,
                 before: a,
                 after: b,
-            };
+            });
         }
         a = latest_of(n, a, b);
-        i += 1;
     }
-    no_cleaning()
+    None
 }
 
 // The first cleaning of a trace.
-fn start(n: u8, w: &[u16; 64], trace: &[u8]) -> Cleaning
+fn start(n: u8, w: &[u16; 64], trace: &[u8]) -> Option<Cleaning>
     ensures { result ≡ first (scanned n w.now trace.now) }
 {
     scan(n, w, trace, 0, 255)
 }
 
 // The cleaning that follows another.
-fn next(n: u8, w: &[u16; 64], trace: &[u8], c: Cleaning) -> Cleaning
+fn next(n: u8, w: &[u16; 64], trace: &[u8], c: Cleaning) -> Option<Cleaning>
     ensures { result ≡ following n w.now trace.now c }
 {
     let at = c.step;
     if at < trace.len() as u64 {
         return scan(n, w, trace, at as usize + 1, c.after);
     }
-    no_cleaning()
+    None
 }
 
 // The first m cleanings of a trace go to the front of the list, in order.
@@ -123,30 +98,23 @@ fn fill(list: &mut [Cleaning], n: u8, w: &[u16; 64], trace: &[u8], m: usize)
     requires { (m ≤ length list.old) × (m ≤ length (scanned n w.now trace.now)) }
     ensures { list.new ≡ pasted m (scanned n w.now trace.now) list.old }
 {
-    let mut c = start(n, w, trace);
-    let mut k: usize = 0;
-    while k < m {
-        list[k] = c;
-        c = next(n, w, trace, c);
-        k = k + 1;
+    let mut found = start(n, w, trace);
+    for k in 0..m {
+        if let Some(c) = found {
+            list[k] = c;
+            found = next(n, w, trace, c);
+        }
     }
 }
 
 // The byte names a thread of the table, or is 255.
+#[tactic(auto, unfolding(crate::specs::Cleanings::known))]
 fn is_known(count: u8, b: u8) -> bool
     ensures { result ≡ known count b }
 {
     let x = b as u32;
     let n = count as u32;
-    if x < n {
-        true
-    } else if x < 32 {
-        false
-    } else if x < 32 + n {
-        true
-    } else {
-        x == 255
-    }
+    x < n || 32 <= x && x < 32 + n || x == 255
 }
 
 // One pass: how many cleanings a trace has, if each of its bytes passes.
@@ -154,9 +122,8 @@ fn tally(n: u8, w: &[u16; 64], trace: &[u8]) -> Result<usize, Refusal>
     ensures { result ≡ tallied n w.now trace.now }
 {
     let mut m: usize = 0;
-    let mut i: usize = 0;
     let mut a: u8 = 255;
-    while i < trace.len() {
+    for i in 0..trace.len() {
         let b = trace[i];
         if !is_known(n, b) {
             return Err(Refusal::TraceByte);
@@ -165,7 +132,6 @@ fn tally(n: u8, w: &[u16; 64], trace: &[u8]) -> Result<usize, Refusal>
             m += 1;
         }
         a = latest_of(n, a, b);
-        i += 1;
     }
     Ok(m)
 }
@@ -199,12 +165,9 @@ pub fn clean(list: &mut [Cleaning], t: Table, trace: &[u8]) -> Result<usize, Ref
 pub fn last_runner(t: Table, trace: &[u8]) -> u8
     ensures { result ≡ last_run t nobody trace.now }
 {
-    let mut i: usize = 0;
     let mut a: u8 = 255;
-    while i < trace.len() {
-        let b = trace[i];
-        a = latest_of(t.count, a, b);
-        i += 1;
+    for i in 0..trace.len() {
+        a = latest_of(t.count, a, trace[i]);
     }
     a
 }

@@ -83,6 +83,14 @@ module _ {n k r : ℕ} (c : Counting n k r) where
       let t : length (decimal_in (suc (20 - k)) r) + k ≡ length (decimal n) + 1 = subst (λ (j : ℕ). length (decimal_in j r) + k ≡ length (decimal n) + 1) e c.told in
       omega (arith, t, decimal_in_small (20 - k) r h)
 
+  -- All but the last of twenty were told off, and one digit is left.
+  pub counting_last : 20 ≤ k → 20 ≡ length (decimal n)
+  counting_last h =
+      let e : 21 - k ≡ 1 = omega (arith, c.few) in
+      let q : r < 10 ^ 1 = subst (λ (j : ℕ). r < 10 ^ j) e c.holds in
+      let t : k ≡ length (decimal n) = counting_ends (omega arith) in
+      omega (arith, t, c.few)
+
 -- The last k digits of a number; as many as it has are all.
 unfoldable pub last_digits : ℕ → ℕ → List ℕ
 last_digits zero n = []

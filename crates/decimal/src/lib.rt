@@ -9,13 +9,14 @@ ghost use Rattle.decimal.specs.Decimal.{digit, decimal};
 pub fn places(n: u64) -> usize
     ensures { result ≡ length (decimal n) }
 {
-    let mut k = 1;
     let mut rest = n;
-    while 10 <= rest {
+    for k in 1..20 {
+        if rest < 10 {
+            return k;
+        }
         rest /= 10;
-        k += 1;
     }
-    k
+    20
 }
 
 // The last digit of a number.
@@ -31,10 +32,8 @@ pub fn put_number(buf: &mut [u8], at: usize, n: u64) -> usize
     ensures { Put buf.old at buf.new result (decimal n) }
 {
     let end = at + places(n);
-    let mut k = end;
     let mut rest = n;
-    while at < k {
-        k -= 1;
+    for k in (at..end).rev() {
         buf[k] = last_digit(rest);
         rest /= 10;
     }

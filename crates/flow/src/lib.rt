@@ -7,33 +7,26 @@ ghost use Rattle.flow.specs.Flow.{flows, row_ok};
 ghost use Rattle.flow.specs.Gap.{broken, first_gap, gap_told, told};
 
 // Whether bit j of v is set.
+#[tactic(auto, using(crate::proofs::FlowLaws::no_bits))]
 pub fn bit(v: u16, j: u8) -> bool
     ensures { result ≡ eqb (v / 2 ^ j % 2) 1 }
 {
-    if 16 <= j {
-        return false;
-    }
-    (v >> j) % 2 == 1
+    j < 16 && (v >> j) % 2 == 1
 }
 
 // Whether v has no bit from d on.
+#[tactic(auto, using(crate::proofs::FlowLaws::no_bits))]
 fn none_from(v: u16, d: u8) -> bool
     ensures { result ≡ eqb (v / 2 ^ d) 0 }
 {
-    if 16 <= d {
-        return true;
-    }
-    v >> d == 0
+    16 <= d || v >> d == 0
 }
 
 // Row i; a domain past the rows has an empty one.
 pub fn row(rows: [u16; 16], i: u8) -> u16
     ensures { result ≡ get_or rows i 0 }
 {
-    if 16 <= i {
-        return 0;
-    }
-    rows[i as usize]
+    rows.get(i as usize).copied().unwrap_or(0)
 }
 
 // Whether domain i may flow to domain j; a domain past the rows flows nowhere.
@@ -44,13 +37,11 @@ pub fn may_flow(rows: [u16; 16], i: u8, j: u8) -> bool
 }
 
 // Whether row i, of value v, names only domains of the table, its own among them.
+#[tactic(auto, unfolding(crate::specs::Flow::row_ok))]
 pub fn row_passes(domains: u8, i: u8, v: u16) -> bool
     ensures { result ≡ row_ok domains i v }
 {
-    if none_from(v, domains) {
-        return bit(v, i);
-    }
-    false
+    none_from(v, domains) && bit(v, i)
 }
 
 // The first domains that break transitivity: a flows to b, b to c, and a not to c.
@@ -62,15 +53,11 @@ pub struct Gap {
 }
 
 // Whether a, b, c break transitivity.
+#[tactic(auto, unfolding(crate::specs::Gap::broken))]
 fn breaks(rows: [u16; 16], a: u8, b: u8, c: u8) -> bool
     ensures { result ≡ broken rows a b c }
 {
-    if may_flow(rows, a, b) {
-        if may_flow(rows, b, c) {
-            return !may_flow(rows, a, c);
-        }
-    }
-    false
+    may_flow(rows, a, b) && may_flow(rows, b, c) && !may_flow(rows, a, c)
 }
 
 // Whether w has every bit of v.
@@ -84,10 +71,7 @@ fn covers(w: u16, v: u16) -> bool
 fn is_whole(rows: [u16; 16], a: u8, b: u8) -> bool
     ensures { result ≡ true → (c : ℕ) → broken rows a b c ≡ false }
 {
-    if may_flow(rows, a, b) {
-        return covers(row(rows, a), row(rows, b));
-    }
-    true
+    !may_flow(rows, a, b) || covers(row(rows, a), row(rows, b))
 }
 
 // The first missing pair ends the search: the smallest a, then b, then c.

@@ -7,6 +7,14 @@ ghost use Rattle.frame.specs.Frame.{window, window_ok, frame_ok, frame_length, w
 
 use table::{Range, Table, in_range};
 
+// How many windows a frame may have, and how many steps a window.
+const COUNTS: Range = Range { low: 1, below: 65 };
+
+const LENGTHS: Range = Range {
+    low: 1,
+    below: 60001,
+};
+
 // The domain that a window is of, and how many steps it takes.
 #[derive(Clone, Copy, Debug, PartialEq, Eq)]
 pub struct Window {
@@ -22,17 +30,11 @@ pub struct Frame {
 }
 
 // Whether a window passes with a table of so many domains.
+#[tactic(auto, unfolding(crate::specs::Frame::window_ok))]
 fn window_passes(domains: u8, w: Window) -> bool
     ensures { result ≡ window_ok domains w }
 {
-    if domains <= w.domain {
-        return false;
-    }
-    let lengths = Range {
-        low: 1,
-        below: 60001,
-    };
-    in_range(lengths, w.length)
+    w.domain < domains && in_range(LENGTHS, w.length)
 }
 
 fn windows_pass(domains: u8, f: Frame) -> bool
@@ -49,13 +51,11 @@ fn windows_pass(domains: u8, f: Frame) -> bool
 }
 
 // Whether a frame passes with a table.
+#[tactic(auto, unfolding(crate::specs::Frame::frame_ok))]
 pub fn frame_passes(t: Table, f: Frame) -> bool
     ensures { result ≡ frame_ok t f }
 {
-    if !in_range(Range { low: 1, below: 65 }, f.count as u16) {
-        return false;
-    }
-    windows_pass(t.domains, f)
+    in_range(COUNTS, f.count as u16) && windows_pass(t.domains, f)
 }
 
 // How many steps a frame takes.

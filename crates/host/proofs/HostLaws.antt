@@ -13,11 +13,19 @@ use Rattle.basis.specs.Search.{Sought, nothing, found}
 use Rattle.basis.proofs.TestLaws.{by_test}
 use Rattle.table.specs.declared.Table.{Table}
 use Rattle.table.specs.Legal.{legal, Legal}
-use Rattle.table.specs.Mark.{Leaks, Protects, protects, mark, marks_given}
+use Rattle.table.specs.Mark.{Mark, Leaks, Protects, protects, mark, marks_given, given}
 use Rattle.table.proofs.LegalLaws.{legal_complete, legal_small}
 use Rattle.table.proofs.MarkLaws.{protects-given, protects_only, protects-none, marks_given-at, marks_past, marks_refused}
 use Rattle.numeral.specs.NumberRules.{Bytes}
-use Rattle.reader.specs.Reader.{accepted, reading}
+use Rattle.reader.specs.Reader.{Read, accepted, reading, read_of}
+use Rattle.reader.specs.declared.Fault.{Fault}
+use Rattle.basis.specs.Told.{answered}
+use Rattle.basis.specs.Refusals.{number, refused_by}
+use Rattle.basis.specs.declared.refusal.Refusal.{Refusal}
+use Rattle.basis.proofs.RefusalLaws.{number-positive}
+use Rattle.std.proofs.Common.{Option, Some, None, Result, Ok, Err, option_to_list, unwrap_or, replicate}
+use Rattle.std.specs.Result.{result_unwrap_or}
+use Rattle.std.specs.Option.{option_flatten}
 use Rattle.reader.proofs.ReaderLaws.{accepted-plain}
 use Rattle.codec.proofs.RoundTrip.{accepted_exactly}
 use Rattle.admission.specs.Bounded.{bound, sought_told, bounding, IsBound, NoBound}
@@ -38,12 +46,12 @@ module _ (f : Table → ℕ → ℕ) (s : List ℕ) (i : ℕ) where
   unfolding of_thread pick
   answering h l = rw (eq-eqb _ _ h, lt-ltb _ _ l)
 
+  pub refused_only : {n : ℕ} → Refuses s i n → of_thread f s i ≡ refusal n
+  refused_only (not_read h) = unread h
+  refused_only (no_thread h l) = lacking h l
+
 -- Answers that are small of every thread of a table are apart from the refusals: 100,000 and n is answered exactly where n refuses.
 module _ (f : Table → ℕ → ℕ) (s : List ℕ) (i : ℕ) (small : verdict s ≡ 0 → i < (reading s).table.count → f (reading s).table i < 100000) where
-  refused_only : {n : ℕ} → Refuses s i n → of_thread f s i ≡ refusal n
-  refused_only (not_read h) = unread f s i h
-  refused_only (no_thread h l) = lacking f s i h l
-
   refused-given : (n : ℕ) → of_thread f s i ≡ refusal n → Refuses s i n
   refused-given n e =
       by_test (eqb (verdict s) 0)
@@ -56,13 +64,35 @@ module _ (f : Table → ℕ → ℕ) (s : List ℕ) (i : ℕ) (small : verdict s
       let q : verdict s ≡ n = omega (arith, e, unread f s i z) in subst (λ (m : ℕ). Refuses s i m) q (not_read z))
 
   refused_exactly : (n : ℕ) → (of_thread f s i ≡ refusal n) ↔ Refuses s i n
-  refused_exactly n = (λ e. refused-given n e, λ r. refused_only r)
+  refused_exactly n = (λ e. refused-given n e, λ r. refused_only f s i r)
 
   apart_exactly : (100000 ≤ of_thread f s i) ↔ Refused s i
   apart_exactly = (
     λ h. record { number = of_thread f s i - 100000; refuses = refused-given (of_thread f s i - 100000) (omega arith) },
-    λ r. omega (arith, refused_only r.refuses),
+    λ r. omega (arith, refused_only f s i r.refuses),
   )
+
+-- What the reader's answer says: the verdict and the table, or the refusal.
+pub read_table : (s : List ℕ) (t : Table) → read_of (Ok t) ≡ reading s → (verdict s ≡ 0) × (t ≡ (reading s).table)
+unfolding verdict
+read_table s t e = (sym (ap (λ (r : Read). r.told.number) e), ap (λ (r : Read). r.table) e)
+
+pub read_number : (s : List ℕ) (f : Fault) → read_of (Err f) ≡ reading s → number f.why ≡ verdict s
+unfolding verdict
+read_number s f e = ap (λ (r : Read). r.told.number) e
+
+pub read_refuses : (s : List ℕ) (i : ℕ) (f : Fault) → read_of (Err f) ≡ reading s → Refuses s i (number f.why)
+read_refuses s i f e = rw (read_number s f e) (not_read (λ z. omega (arith, number-positive f.why, read_number s f e)))
+
+-- What a bound's answer tells, as a number.
+pub refusal_told : (why : Refusal) → told_number (refused_by why) ≡ refusal (number why)
+unfolding told_number pick
+refusal_told why = rw (ne_eqb (number why) 0 (λ e. omega (arith, number-positive why)))
+
+pub option_told : (o : Option ℕ) → told_number (answered (option_to_list o)) ≡ unwrap_or o 0
+unfolding told_number pick
+option_told None = refl
+option_told (Some x) = refl
 
 -- Whom a mark protects, as a number: the thread, or 255.
 abbrev or_255 : Sought ℕ → ℕ
@@ -70,7 +100,6 @@ or_255 nothing = 255
 or_255 (found j) = j
 
 number-told : (s : Sought ℕ) → mark_told (mark s) ≡ or_255 s
-unfolding pick
 number-told nothing = refl
 number-told (found j) = refl
 
@@ -81,6 +110,20 @@ number_by t i s e = ap mark_told e ∙ number-told s
 told_small : (t : Table) (i : ℕ) → t.count ≤ 32 → (s : Sought ℕ) → protects t i ≡ s → or_255 s < 100000
 told_small t i h nothing e = omega arith
 told_small t i h (found j) e = omega (arith, (protects-given t i j e).in_table)
+
+-- The mark that stands at a place of what `marks` answers.
+given_is : (r : Result (List Mark) Refusal) → result_unwrap_or r (replicate 32 None) ≡ given r
+given_is (Ok ms) = refl
+given_is (Err why) = refl
+
+flat : (o : Option Mark) → option_flatten o ≡ unwrap_or o None
+flat None = refl
+flat (Some m) = refl
+
+pub mark_read : (t : Table) (i : ℕ) (r : Result (List Mark) Refusal) (ms : List Mark) (o : Option Mark) (m : Mark) → given r ≡ marks_given t → ms ≡ result_unwrap_or r (replicate 32 None)
+    → m ≡ option_flatten o → unwrap_or o None ≡ get_or ms i None → mark_told m ≡ mark_number t i
+unfolding mark_number
+mark_read t i r ms o m g u e h = ap mark_told (e ∙ flat o ∙ h ∙ ap (λ (xs : List Mark). get_or xs i None) (u ∙ given_is r ∙ g))
 
 mark_small : (t : Table) (i : ℕ) → mark_number t i < 100000
 mark_small t i =

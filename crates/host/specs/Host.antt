@@ -1,10 +1,9 @@
 -- What the host in C is told: numbers, with 100,000 and the number for a refusal.
-use Rattle.std.specs.Prelude.{ℕ, ◌+◌, ◌≤◌, ◌<◌, ◌≡◌, ◌≢◌, List, [], ◌∷◌, get_or, eqb, ltb}
+use Rattle.std.specs.Prelude.{ℕ, ◌+◌, ◌≤◌, ◌<◌, ◌≡◌, ◌≢◌, List, [], ◌∷◌, get_or, eqb, ltb, Some, None}
 use Rattle.basis.specs.Tests.{pick}
 use Rattle.basis.specs.Told.{Told}
 use Rattle.basis.specs.Search.{nothing}
-use Rattle.table.specs.Mark.{mark, marks_given}
-use Rattle.table.specs.Mark.{Mark}
+use Rattle.table.specs.Mark.{Mark, mark, marks_given}
 use Rattle.table.specs.declared.Table.{Table}
 use Rattle.reader.specs.Reader.{reading}
 use Rattle.admission.specs.Bounded.{bounding, NoBound}
@@ -24,7 +23,8 @@ of_thread f s i =
 
 -- A mark as a number: the thread that it protects, 255 for none.
 abbrev pub mark_told : Mark → ℕ
-mark_told m = pick m.set m.thread 255
+mark_told (Some j) = j
+mark_told None = 255
 
 unfoldable pub mark_number : Table → ℕ → ℕ
 mark_number t i = mark_told (get_or (marks_given t) i (mark nothing))

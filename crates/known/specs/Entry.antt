@@ -1,5 +1,5 @@
 -- A statement of document 01: what the definitions compute, and what was found by hand.
-use Rattle.std.specs.Prelude.{ℕ, ◌+◌, ◌≡◌, refl, List, [], ◌∷◌, ◌++◌, map, Bool, true, false, length, eqb}
+use Rattle.std.specs.Prelude.{ℕ, ◌≡◌, refl, List, [], ◌∷◌, ◌++◌, map, Bool, true, false, length, eqb, unwrap_or}
 use Rattle.std.proofs.Common.{ap₂, eqb-true}
 use Rattle.std.proofs.lemmas.Bool.{false≢true}
 use Rattle.basis.specs.Tests.{pick, and}
@@ -71,9 +71,9 @@ is_legal t = pick (legal t) 1 0
 abbrev pub read_told : List ℕ → List ℕ
 read_told s = flat (reading s).told
 
--- What `marks` tells of a table, and then the 32 marks: the thread of a mark that is set, 100 and the thread of another.
+-- What `marks` tells of a table, and then the 32 marks: the thread that one protects, or 100 where it protects none.
 abbrev pub marks_told : Table → List ℕ
-marks_told t = flat (marking t) ++ map (λ (m : Mark). pick m.set m.thread (100 + m.thread)) (marks_given t)
+marks_told t = flat (marking t) ++ map (λ (m : Mark). unwrap_or m 100) (marks_given t)
 
 -- What `write` tells of a table in a buffer from a place on, and then what the buffer holds.
 abbrev pub write_told : List ℕ → ℕ → Table → List ℕ

@@ -1,4 +1,5 @@
 // A grid of 256 cells, filled from the rows and closed under transitivity: cell 16 * a + b says whether a may flow to b.
+// One list of cells, since the definitions of specs/Grid.antt speak of it so.
 ghost use Rattle.std.specs.Prelude.{◌≡◌, ◌≤◌, ◌<◌};
 ghost use Rattle.mend.specs.Grid.{filled, by_way, closed};
 ghost use Rattle.mend.specs.Rows.{row_from, rows_of, mended as the-mended};

@@ -36,6 +36,7 @@ pub fn list_added(rows: [u16; 16], mended: [u16; 16], pairs: &mut [u8])
     requires { length (added rows mended 256) ≤ length pairs.old }
     ensures { pairs.new ≡ added rows mended 256 ++ drop (length (added rows mended 256)) pairs.old }
 {
+    // tried, and not proved: `pairs.iter_mut().zip(..)`, after which a proof does not know the places
     let mut n = 0;
     for c in 0..=255u8 {
         if is_added(rows, mended, c) {

@@ -14,12 +14,6 @@ pub struct Numeral {
     pub next: usize,
 }
 
-fn wide(b: u8) -> u32
-    ensures { (result ≡ b) × (result < 256) }
-{
-    b as u32
-}
-
 // The third byte of a number, where the first two give v.
 fn third_byte(s: &[u8], at: usize, v: u32) -> Result<Numeral, Refusal>
     requires { v < 16384 }
@@ -28,7 +22,7 @@ fn third_byte(s: &[u8], at: usize, v: u32) -> Result<Numeral, Refusal>
     if s.len() <= at {
         return Err(Refusal::EndsEarly);
     }
-    let last = wide(s[at]);
+    let last = u32::from(s[at]);
     if 128 <= last {
         return Err(Refusal::TooLarge);
     }
@@ -37,7 +31,10 @@ fn third_byte(s: &[u8], at: usize, v: u32) -> Result<Numeral, Refusal>
     }
     let w = v + 16384 * last;
     if w <= 65535 {
-        return Ok(Numeral { value: w as u16, next: at + 1 });
+        return Ok(Numeral {
+            value: w as u16,
+            next: at + 1,
+        });
     }
     Err(Refusal::TooLarge)
 }
@@ -50,12 +47,15 @@ fn second_byte(s: &[u8], at: usize, v: u32) -> Result<Numeral, Refusal>
     if s.len() <= at {
         return Err(Refusal::EndsEarly);
     }
-    let b = wide(s[at]);
+    let b = u32::from(s[at]);
     if b == 0 {
         return Err(Refusal::NotShortest);
     }
     if b < 128 {
-        return Ok(Numeral { value: (v + 128 * b) as u16, next: at + 1 });
+        return Ok(Numeral {
+            value: (v + 128 * b) as u16,
+            next: at + 1,
+        });
     }
     third_byte(s, at + 1, v + 128 * (b - 128))
 }
@@ -67,9 +67,12 @@ pub fn read_number(s: &[u8], at: usize) -> Result<Numeral, Refusal>
     if s.len() <= at {
         return Err(Refusal::EndsEarly);
     }
-    let b = wide(s[at]);
+    let b = u32::from(s[at]);
     if b < 128 {
-        return Ok(Numeral { value: b as u16, next: at + 1 });
+        return Ok(Numeral {
+            value: b as u16,
+            next: at + 1,
+        });
     }
     second_byte(s, at + 1, b - 128)
 }

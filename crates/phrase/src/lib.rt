@@ -6,17 +6,14 @@ ghost use Rattle.writer.specs.Buffer.{Room, Put};
 ghost use Rattle.report.specs.Printing.{told, printing, printed};
 ghost use Rattle.phrase.specs.Phrase.{piece, used, filled};
 
+use basis::Refusal;
 use decimal::{places, put_byte, put_number};
-use report::Printing;
 
 // The number of a place; behind the last there are zeros.
 fn number_at(numbers: &[u64], j: usize) -> u64
     ensures { result ≡ get_or numbers.now j 0 }
 {
-    if numbers.len() <= j {
-        return 0;
-    }
-    numbers[j]
+    numbers.get(j).copied().unwrap_or(0)
 }
 
 // How many numbers were used up, one character of the template further.
@@ -25,10 +22,7 @@ fn used_up(j: usize, b: u8) -> usize
     requires { j < 9223372036854775807 }
     ensures { result ≡ j + used b }
 {
-    if b == b'#' {
-        return j + 1;
-    }
-    j
+    if b == b'#' { j + 1 } else { j }
 }
 
 // How many bytes stand for a character of the template.
@@ -36,10 +30,7 @@ fn used_up(j: usize, b: u8) -> usize
 fn piece_size(b: u8, n: u64) -> usize
     ensures { result ≡ length (piece b n) }
 {
-    if b == b'#' {
-        return places(n);
-    }
-    1
+    if b == b'#' { places(n) } else { 1 }
 }
 
 // What stands for a character of the template.
@@ -60,8 +51,7 @@ fn is_roomy(room: usize, template: &[u8], numbers: &[u64]) -> bool
 {
     let mut left = room;
     let mut j = 0;
-    for i in 0..template.len() {
-        let b = template[i];
+    for &b in template {
         let n = number_at(numbers, j);
         let size = piece_size(b, n);
         if left < size {
@@ -80,8 +70,7 @@ pub fn put_filled(buf: &mut [u8], at: usize, template: &[u8], numbers: &[u64]) -
 {
     let mut k = at;
     let mut j = 0;
-    for i in 0..template.len() {
-        let b = template[i];
+    for &b in template {
         let n = number_at(numbers, j);
         k = put_piece(buf, k, b, n);
         j = used_up(j, b);
@@ -90,16 +79,13 @@ pub fn put_filled(buf: &mut [u8], at: usize, template: &[u8], numbers: &[u64]) -
 }
 
 // All of the filled template from the place at on, or nothing of it.
-pub fn fill(buf: &mut [u8], at: usize, template: &[u8], numbers: &[u64]) -> Printing
+pub fn fill(buf: &mut [u8], at: usize, template: &[u8], numbers: &[u64]) -> Result<usize, Refusal>
     ensures { (told result ≡ printing buf.old at (filled template.now numbers.now)) × (buf.new ≡ printed buf.old at (filled template.now numbers.now)) }
 {
-    let len = buf.len();
-    if len < at {
-        return Printing::NoRoom;
+    match buf.len().checked_sub(at) {
+        Some(room) if is_roomy(room, template, numbers) => Ok(put_filled(
+            buf, at, template, numbers,
+        )),
+        _ => Err(Refusal::NoRoom),
     }
-    if !is_roomy(len - at, template, numbers) {
-        return Printing::NoRoom;
-    }
-    let next = put_filled(buf, at, template, numbers);
-    Printing::Printed(next)
 }

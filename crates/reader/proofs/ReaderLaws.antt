@@ -29,9 +29,6 @@ use Rattle.table.specs.declared.Thread.{Thread}
 use Rattle.table.proofs.RangeLaws.{within_high, field_range_by, narrow_by}
 use Rattle.reader.specs.declared.Fault.{Fault}
 use Rattle.reader.specs.declared.Cursor.{Cursor as CursorInHand}
-use Rattle.reader.specs.declared.RowsRead.{RowsRead as RowsInHand}
-use Rattle.reader.specs.declared.FieldsRead.{FieldsRead as FieldsInHand}
-use Rattle.reader.specs.declared.ThreadsRead.{ThreadsRead as ThreadsInHand}
 use Rattle.reader.specs.Reader.{Cursor, RowsRead, FieldsRead, ThreadsRead, GivesUp, Stands, HasRows, HasFields, HasThreads, Read, told, table_of, read_of, good, number_from, judged, ranged, row_from, put_row, rows_from, free, field_from, put_field, fields_from, put_thread, threads_from, accepted, no_table, ended, whole_or_gap, after_rows, version_from, domains_from, count_from, reading}
 
 -- One turn of each loop.
@@ -207,13 +204,13 @@ module _ (f : Fault) where
   pub number_ends : (k : Cursor) (r : Result CursorInHand Fault) → IsErrAnd r (λ y. y ≡ f) → GivesUp f k → Stands r k
   number_ends k = handed_on (λ r. Stands r k)
 
-  pub rows_ends : (x : RowsRead) (r : Result RowsInHand Fault) → IsErrAnd r (λ y. y ≡ f) → GivesUp f x.cursor → HasRows r x
+  pub rows_ends : (x : RowsRead) (r : Result (CursorInHand × List ℕ) Fault) → IsErrAnd r (λ y. y ≡ f) → GivesUp f x.cursor → HasRows r x
   rows_ends x = handed_on (λ r. HasRows r x)
 
-  pub fields_ends : (x : FieldsRead) (r : Result FieldsInHand Fault) → IsErrAnd r (λ y. y ≡ f) → GivesUp f x.cursor → HasFields r x
+  pub fields_ends : (x : FieldsRead) (r : Result (CursorInHand × List ℕ) Fault) → IsErrAnd r (λ y. y ≡ f) → GivesUp f x.cursor → HasFields r x
   fields_ends x = handed_on (λ r. HasFields r x)
 
-  pub threads_ends : (x : ThreadsRead) (r : Result ThreadsInHand Fault) → IsErrAnd r (λ y. y ≡ f) → GivesUp f x.cursor → HasThreads r x
+  pub threads_ends : (x : ThreadsRead) (r : Result (CursorInHand × List Thread) Fault) → IsErrAnd r (λ y. y ≡ f) → GivesUp f x.cursor → HasThreads r x
   threads_ends x = handed_on (λ r. HasThreads r x)
 
   pub read_ends : (x : Read) (r : Result Table Fault) → IsErrAnd r (λ y. y ≡ f) → read_of (Err f) ≡ x → read_of r ≡ x

@@ -12,13 +12,8 @@ use Rattle.table.specs.Legal.{taken}
 use Rattle.table.specs.declared.Range.{Range}
 use Rattle.table.specs.declared.Table.{Table}
 use Rattle.table.specs.declared.Thread.{Thread}
-use Rattle.numeral.specs.Number.{Number}
-use Rattle.numeral.specs.Number.{Value, Refused}
-use Rattle.numeral.specs.Number.{number_at}
+use Rattle.numeral.specs.Number.{Number, Value, Refused, number_at}
 use Rattle.reader.specs.declared.Cursor.{Cursor as CursorInHand}
-use Rattle.reader.specs.declared.RowsRead.{RowsRead as RowsInHand}
-use Rattle.reader.specs.declared.FieldsRead.{FieldsRead as FieldsInHand}
-use Rattle.reader.specs.declared.ThreadsRead.{ThreadsRead as ThreadsInHand}
 use Rattle.reader.specs.declared.Fault.{Fault}
 
 -- Where a reader stands: the refusal met (0: none), the start of the last number, the start of the next, the last number.
@@ -176,18 +171,18 @@ Stands (Ok c) k = standing c ≡ k
 Stands (Err f) k = GivesUp f k
 
 -- What it has in hand after the rows is what was read of them.
-abbrev pub HasRows : Result RowsInHand Fault → RowsRead → Type 0
-HasRows (Ok r) x = record { cursor = standing r.cursor; rows = r.rows } ≡ x
+abbrev pub HasRows : Result (CursorInHand × List ℕ) Fault → RowsRead → Type 0
+HasRows (Ok r) x = record { cursor = standing r.0; rows = r.1 } ≡ x
 HasRows (Err f) x = GivesUp f x.cursor
 
 -- So it is after the fields of a thread.
-abbrev pub HasFields : Result FieldsInHand Fault → FieldsRead → Type 0
-HasFields (Ok r) x = record { cursor = standing r.cursor; fields = r.fields } ≡ x
+abbrev pub HasFields : Result (CursorInHand × List ℕ) Fault → FieldsRead → Type 0
+HasFields (Ok r) x = record { cursor = standing r.0; fields = r.1 } ≡ x
 HasFields (Err f) x = GivesUp f x.cursor
 
 -- So it is after the threads.
-abbrev pub HasThreads : Result ThreadsInHand Fault → ThreadsRead → Type 0
-HasThreads (Ok r) x = record { cursor = standing r.cursor; threads = r.threads } ≡ x
+abbrev pub HasThreads : Result (CursorInHand × List Thread) Fault → ThreadsRead → Type 0
+HasThreads (Ok r) x = record { cursor = standing r.0; threads = r.1 } ≡ x
 HasThreads (Err f) x = GivesUp f x.cursor
 
 -- Document 01's number and values of an answer: of a refusal its place, then its own.

@@ -6,7 +6,7 @@ ghost use Rattle.reader.specs.Reader.{reading, read_of};
 
 use basis::Refusal;
 use flow::{Gap, first_gap};
-use table::{FIELDS, Range, Table, Thread};
+use table::{DOMAIN_COUNTS, THREAD_COUNTS, Table, VERSIONS};
 
 mod parts;
 mod steps;
@@ -29,24 +29,6 @@ pub struct Fault {
     pub place: usize,
 }
 
-#[derive(Clone, Copy, Debug, PartialEq, Eq)]
-pub struct RowsRead {
-    pub cursor: Cursor,
-    pub rows: [u16; 16],
-}
-
-#[derive(Clone, Copy, Debug, PartialEq, Eq)]
-pub struct FieldsRead {
-    pub cursor: Cursor,
-    pub fields: [u16; FIELDS],
-}
-
-#[derive(Clone, Copy, Debug, PartialEq, Eq)]
-pub struct ThreadsRead {
-    pub cursor: Cursor,
-    pub threads: [Thread; 32],
-}
-
 // A table from all of s, or why it is refused, and where.
 pub fn read(s: &[u8]) -> Result<Table, Fault>
     ensures { read_of result ≡ reading s.now }
@@ -56,13 +38,13 @@ pub fn read(s: &[u8]) -> Result<Table, Fault>
         next: 0,
         value: 0,
     };
-    let v = read_ranged(s, from, Range { low: 1, below: 3 }, Refusal::Version)?;
-    let d = read_ranged(s, v, Range { low: 1, below: 17 }, Refusal::Count)?;
-    let n = read_ranged(s, d, Range { low: 1, below: 33 }, Refusal::Count)?;
+    let v = read_ranged(s, from, VERSIONS, Refusal::Version)?;
+    let d = read_ranged(s, v, DOMAIN_COUNTS, Refusal::Count)?;
+    let n = read_ranged(s, d, THREAD_COUNTS, Refusal::Count)?;
     let version = v.value as u8;
     let domains = d.value as u8;
     let count = n.value as u8;
-    let RowsRead { cursor, rows } = read_rows(s, domains, n)?;
+    let (cursor, rows) = read_rows(s, domains, n)?;
     if let Some(Gap { a, b, c }) = first_gap(rows, domains) {
         return Err(Fault {
             why: Refusal::Intransitive { a, b, c },

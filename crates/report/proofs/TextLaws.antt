@@ -3,27 +3,20 @@ use Prim.Native.Nat.{ℕ, ◌+◌, ◌≤◌, ◌<◌}
 use mathlib.Core.Path.{◌≡◌, refl, ap, sym, ◌∙◌}
 use mathlib.Core.List.{List, [], ◌∷◌}
 use native.Mathlib.Omega.{arith}
-use native.Mathlib.Numerals.{add-one}
-use lib.ListN.{length, get_or, set, take, drop}
-use lib.Seq.{sets-eq, take-suc, take_at}
+use Rattle.std.specs.Prelude.{Result}
+use lib.ListN.{length, take, drop}
+use lib.Seq.{sets-eq, take_at}
 use lib.Dec.{leb}
 use borrow.Author.Tests.{le-leb, lt-leb, leb-true}
 use Rattle.basis.specs.Tests.{pick}
 use Rattle.basis.specs.Told.{Told, answered, refused}
+use Rattle.basis.specs.declared.refusal.Refusal.{Refusal}
 use Rattle.basis.proofs.TestLaws.{by_test}
+use Rattle.basis.proofs.RefusalLaws.{number-apart}
 use Rattle.writer.specs.Buffer.{Room, Put}
 use Rattle.writer.specs.Writer.{Laid}
-use Rattle.writer.proofs.WriterLaws.{put_join, put-length, put-overlaid, overlaid_laid}
-use Rattle.report.specs.declared.Printing.{Printing}
-use Rattle.report.specs.declared.Printing.TheVariants.{Printed, NoRoom}
+use Rattle.writer.proofs.WriterLaws.{put-length, put-overlaid, overlaid_laid}
 use Rattle.report.specs.Printing.{told, printing, printed}
-
--- One byte more.
-pub put_byte : {b : List ℕ} {at : ℕ} {b' : List ℕ} {k : ℕ} (text : List ℕ) (i : ℕ) →
-    i < length text → Put b at b' k (take i text) → Put b at (set b' k (get_or text i 0)) (k + 1) (take (i + 1) text)
-put_byte {b} {at} {b'} {k} text i h f =
-    let g : Put b' k (set b' k (get_or text i 0)) (k + 1) (get_or text i 0 ∷ []) = record { end = omega arith; holds = refl } in
-    rw (add-one i, take-suc text i 0 h) (put_join f g)
 
 -- A buffer has room for ys behind xs where it is long enough for both.
 pub room_behind : {b : List ℕ} {at : ℕ} {b' : List ℕ} {k : ℕ} {xs : List ℕ} (ys : List ℕ) →
@@ -65,14 +58,7 @@ module _ (b : List ℕ) (at : ℕ) (text : List ℕ) where
   print_refused_stays h =
       by_test (leb (at + length text) (length b)) (λ m. let z : 0 < 0 = rw m at h in absurd (omega arith)) (λ m. rw m)
 
--- The answer of the code has one reading.
-pub told_injective : (a b : Printing) → told a ≡ told b → a ≡ b
-told_injective (Printed n) (Printed m) e = let v = ap (λ (t : Told). t.values) e in cc
-told_injective (Printed n) NoRoom e = let v = ap (λ (t : Told). t.number) e in absurd (omega arith)
-told_injective NoRoom (Printed m) e = let v = ap (λ (t : Told). t.number) e in absurd (omega arith)
-told_injective NoRoom NoRoom e = refl
-
 -- No second answer and no second final buffer fit a line.
-pub print_unique : (text b : List ℕ) (at : ℕ) (a a' : Printing) (c c' : List ℕ) →
+pub print_unique : (text b : List ℕ) (at : ℕ) (a a' : Result ℕ Refusal) (c c' : List ℕ) →
     (told a ≡ printing b at text) × (c ≡ printed b at text) → (told a' ≡ printing b at text) × (c' ≡ printed b at text) → (a ≡ a') × (c ≡ c')
-print_unique text b at a a' c c' p q = (told_injective a a' (p.0 ∙ sym q.0), p.1 ∙ sym q.1)
+print_unique text b at a a' c c' p q = (number-apart a a' (p.0 ∙ sym q.0), p.1 ∙ sym q.1)

@@ -7,17 +7,15 @@ ghost use Rattle.report.specs.Printing.{told, printing, printed};
 
 use basis::Refusal;
 use decimal::{put_byte, put_number};
+use walk::Answer;
 
 pub fn put(buf: &mut [u8], at: usize, text: &[u8]) -> usize
     requires { Room buf.old at text.now }
     ensures { Put buf.old at buf.new result text.now }
 {
-    let mut k = at;
-    for i in 0..text.len() {
-        buf[k] = text[i];
-        k += 1;
-    }
-    k
+    let end = at + text.len();
+    buf[at..end].copy_from_slice(text);
+    end
 }
 
 fn put_named(buf: &mut [u8], at: usize, letter: u8, i: u8) -> usize
@@ -28,18 +26,27 @@ fn put_named(buf: &mut [u8], at: usize, letter: u8, i: u8) -> usize
     put_number(buf, a, i as u64)
 }
 
-fn put_choice(buf: &mut [u8], at: usize, b: u8) -> usize
-    requires { at + 4 ≤ length buf.old }
-    ensures { (result ≤ at + 4) × Put buf.old at buf.new result (choice (answer b)) }
+// The answer that a byte of a trace stands for.
+#[tactic(auto, unfolding(crate::specs::Lines::answer, basis::specs::Tests::pick))]
+fn answer_of(b: u8) -> Answer
+    ensures { result ≡ answer b }
 {
-    if b < 32 {
-        return put_named(buf, at, b'T', b);
+    match b {
+        0..=31 => Answer::Ran(b),
+        255 => Answer::Idle,
+        _ => Answer::IdleFor(b - 32),
     }
-    if b == 255 {
-        let a = put_byte(buf, at, b'-');
-        return put_byte(buf, a, b'-');
+}
+
+fn put_choice(buf: &mut [u8], at: usize, a: Answer) -> usize
+    requires { at + 4 ≤ length buf.old }
+    ensures { (result ≤ at + 4) × Put buf.old at buf.new result (choice a) }
+{
+    match a {
+        Answer::Ran(i) => put_named(buf, at, b'T', i),
+        Answer::IdleFor(i) => put_named(buf, at, b'I', i),
+        Answer::Idle => put(buf, at, b"--"),
     }
-    put_named(buf, at, b'I', b - 32)
 }
 
 // The line of a step, from its byte in the trace.
@@ -49,7 +56,7 @@ pub fn put_line(buf: &mut [u8], at: usize, clock: u32, b: u8) -> usize
 {
     let a = put_number(buf, at, clock as u64);
     let c = put_byte(buf, a, b' ');
-    let d = put_choice(buf, c, b);
+    let d = put_choice(buf, c, answer_of(b));
     put_byte(buf, d, b'\n')
 }
 
@@ -57,14 +64,10 @@ pub fn put_line(buf: &mut [u8], at: usize, clock: u32, b: u8) -> usize
 pub fn lay(buf: &mut [u8], at: usize, text: &[u8]) -> Result<usize, Refusal>
     ensures { (told result ≡ printing buf.old at text.now) × (buf.new ≡ printed buf.old at text.now) }
 {
-    let len = buf.len();
-    if len < at {
-        return Err(Refusal::NoRoom);
+    match buf.len().checked_sub(at) {
+        Some(room) if text.len() <= room => Ok(put(buf, at, text)),
+        _ => Err(Refusal::NoRoom),
     }
-    if len - at < text.len() {
-        return Err(Refusal::NoRoom);
-    }
-    Ok(put(buf, at, text))
 }
 
 // A line of a word and a number.

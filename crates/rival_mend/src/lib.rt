@@ -1,15 +1,8 @@
-// A second reading of document 02 on mending a flow policy. It shares neither a function nor a definition with the first: a row is a
-// set, and the sets are squared, so that ways of 2, 4, 8 and then 16 legs are there.
+// A second reading of document 02 on mending a flow policy. It shares types with the first, and neither a function nor a definition: a
+// row is a set, and the sets are squared, so that ways of 2, 4, 8 and then 16 legs are there.
 #![tactic(auto)]
 
-// The number (0 for none), the row at fault or how many pairs, the rows, and the pairs in the first places.
-#[derive(Clone, Copy)]
-pub struct Second {
-    pub number: u8,
-    pub value: u16,
-    pub rows: [u16; 16],
-    pub pairs: [u8; 256],
-}
+use mend::{Mended, Unmendable};
 
 // The set of domain j alone.
 pub fn only(j: u8) -> u16 {
@@ -23,20 +16,16 @@ pub fn has(set: u16, j: u8) -> bool {
 // What a set's domains may flow to, in one leg more.
 fn reached(rows: [u16; 16], from: u16) -> u16 {
     let mut to = from;
-    for b in 0..16u8 {
+    for (b, row) in (0..16).zip(&rows) {
         if has(from, b) {
-            to = to | rows[b as usize % 16];
+            to |= *row;
         }
     }
     to
 }
 
 fn squared(rows: [u16; 16]) -> [u16; 16] {
-    let mut next = rows;
-    for a in 0..16usize {
-        next[a] = reached(rows, rows[a]);
-    }
-    next
+    rows.map(|set| reached(rows, set))
 }
 
 fn closed(rows: [u16; 16]) -> [u16; 16] {
@@ -45,94 +34,47 @@ fn closed(rows: [u16; 16]) -> [u16; 16] {
 
 // Only domains that are there, its own among them.
 fn row_is_good(set: u16, domains: u8, i: u8) -> bool {
-    for j in 0..16u8 {
-        if has(set, j) & (j >= domains) {
-            return false;
-        }
-    }
-    has(set, i)
+    has(set, i) && !(domains..16).any(|j| has(set, j))
 }
 
-// The first row that is not good; 16 where there is none.
-fn first_bad(rows: [u16; 16], domains: u8) -> u8 {
-    for i in 0..16u8 {
-        if (i < domains) & !row_is_good(rows[i as usize % 16], domains, i) {
-            return i;
-        }
-    }
-    16
+// The first row that is not good, if there is one.
+fn first_bad(rows: [u16; 16], domains: u8) -> Option<u8> {
+    (0..domains)
+        .zip(rows)
+        .find(|(i, set)| !row_is_good(*set, domains, *i))
+        .map(|(i, _)| i)
 }
 
-#[derive(Clone, Copy)]
-struct Found {
-    n: u16,
-    pairs: [u8; 256],
+// Whether rows have a pair, which is 16 times its source plus its target.
+fn has_pair(rows: [u16; 16], pair: u8) -> bool {
+    has(rows[pair as usize / 16], pair % 16)
 }
 
-// One pair more, from a to b.
-fn more(f: Found, a: u8, b: u8) -> Found {
-    let mut g = f;
-    g.pairs[f.n as usize % 256] = std::num::wrapping_add_u8(a % 16 * 16, b);
-    g.n = std::num::wrapping_add_u16(f.n, 1);
-    g
+fn is_new(some: [u16; 16], all: [u16; 16], pair: u8) -> bool {
+    has_pair(all, pair) && !has_pair(some, pair)
 }
 
-// Those of row a that all has and some has not.
-fn of_row(f: Found, some: u16, all: u16, a: u8) -> Found {
-    let mut g = f;
-    for b in 0..16u8 {
-        if has(all, b) & !has(some, b) {
-            g = more(g, a, b);
-        }
-    }
-    g
-}
-
-fn new_pairs(some: [u16; 16], all: [u16; 16]) -> Found {
-    let mut f = Found {
-        n: 0,
-        pairs: [0; 256],
-    };
-    for a in 0..16u8 {
-        f = of_row(f, some[a as usize % 16], all[a as usize % 16], a);
-    }
-    f
-}
-
-fn refused(number: u8, value: u16) -> Second {
-    Second {
-        number,
-        value,
-        rows: [0; 16],
-        pairs: [0; 256],
-    }
-}
-
-// With a list of so many places.
-pub fn mend(given: &[u16], room: usize) -> Second {
+// The list is written to only where it is long enough.
+pub fn mend(given: &[u16], pairs: &mut [u8]) -> Result<Mended, Unmendable> {
     let n = given.len();
-    if (n == 0) | (n > 16) {
-        return refused(5, 0);
+    if n == 0 || 16 < n {
+        return Err(Unmendable::BadCount);
     }
-    let mut rows = [0u16; 16];
-    for i in 0..n {
-        rows[i % 16] = given[i];
-    }
-    let domains = (n % 17) as u8;
-    let bad = first_bad(rows, domains);
-    if bad < 16 {
-        return refused(6, bad as u16);
+    let mut rows = [0; 16];
+    rows[..n].copy_from_slice(given);
+    if let Some(i) = first_bad(rows, n as u8) {
+        return Err(Unmendable::BadRow(i));
     }
     let all = closed(rows);
-    let f = new_pairs(rows, all);
-    if room < f.n as usize {
-        return refused(16, 0);
+    let added = (0..=255).filter(|c| is_new(rows, all, *c)).count();
+    if pairs.len() < added {
+        return Err(Unmendable::NoRoom);
     }
-    let pairs = f.pairs;
-    Second {
-        number: 0,
-        value: f.n,
-        rows: all,
-        pairs,
+    for (place, c) in pairs
+        .iter_mut()
+        .zip((0..=255).filter(|c| is_new(rows, all, *c)))
+    {
+        *place = c;
     }
+    Ok(Mended { added, rows: all })
 }

@@ -5,3 +5,4 @@ pub mod StopLaws
 pub mod PlayLaws
 pub mod OneLaws
 pub mod RunLaws
+pub mod UniqueLaws

@@ -20,7 +20,8 @@ use Rattle.frame.specs.Mode.{Mode, mode_ok}
 use Rattle.walk.specs.Step.{Input, step}
 use Rattle.walk.proofs.StepLaws.{step_clock, step_fits}
 use Rattle.scheduler.specs.Taken.{mask_ok, taken_then, taken}
-use Rattle.block.specs.Block.{input_at, inputs, end_of, masks_ok, refusal_then, refusal, Blocked, made, block, blocked_of}
+use Rattle.basis.specs.Refusals.{number_or_0}
+use Rattle.block.specs.Block.{input_at, inputs, end_of, masks_ok, refusal_then, refusal, Blocked, made, block, blocked_of, next_of}
 use Rattle.block.specs.declared.Ended.{Ended}
 use Rattle.block.proofs.StretchLaws.{clock_at, fits-at, part-inside}
 use Rattle.block.proofs.RunLaws.{block_made, block-next}
@@ -104,11 +105,11 @@ module _ (t : Table) (mode : Mode) (l : Legal t) (o : mode_ok t mode ≡ true) (
   unfolding made
   state-made = ap (λ (x : Blocked). x.state) steps-made
 
-  number-made : r.number ≡ 0
+  number-made : number_or_0 r.outcome ≡ 0
   unfolding made
   number-made = ap (λ (x : Blocked). x.number) steps-made
 
-  next-made : r.next ≡ b.n
+  next-made : next_of r.outcome ≡ b.n
   next-made = ap (λ (x : Blocked). x.next) gave ∙ block-next t mode front_masks front_bytes s part unrefused ∙ many
 
   state_clock : r.state.clock ≡ s.clock + b.n

@@ -1,4 +1,4 @@
--- A run by the number that refuses it: none of it, or what single calls make; and no second answer fits.
+-- A run by the number that refuses it: none of it, or what single calls make.
 use Prim.Native.Nat.{ℕ}
 use mathlib.Core.Path.{◌≡◌, sym, ◌∙◌, ap}
 use mathlib.Core.List.{List}
@@ -9,9 +9,8 @@ use Rattle.table.specs.declared.Table.{Table}
 use Rattle.state.specs.State.{Fits}
 use Rattle.state.specs.declared.State.{State}
 use Rattle.frame.specs.Mode.{Mode}
-use Rattle.runs.specs.Playing.{whole_steps, run_refusal, run_number, refused_run, ran}
+use Rattle.runs.specs.Playing.{Played, whole_steps, run_refusal, run_number, refused_run, ran}
 use Rattle.runs.specs.Stopping.{Plays}
-use Rattle.runs.specs.Playing.{Played}
 use Rattle.runs.proofs.OneLaws.{plays_only}
 
 module _ (t : Table) (mode : Mode) (masks bs : List ℕ) (s : State) (part : List ℕ) where
@@ -27,6 +26,3 @@ module _ (t : Table) (mode : Mode) (masks bs : List ℕ) (s : State) (part : Lis
     pub ran-made : why ≡ 0 → Fits t s → (r : Played) (part' : List ℕ) → Plays t mode s masks bs part r part' → (r, part') ≡ ran t mode masks bs s part
     unfolding ran pick
     ran-made z f r part' p = rw (numbered ∙ z) (plays_only t mode s f masks bs part r part' p)
-
-  pub runs_unique : (r q : Played × List ℕ) → r ≡ ran t mode masks bs s part → q ≡ ran t mode masks bs s part → r ≡ q
-  runs_unique r q e f = e ∙ sym f

@@ -1,19 +1,19 @@
 -- Where a run stops: before the first mask that does not pass, at the last clock, or behind the last whole step.
 use Prim.Native.Nat.{ℕ, ◌+◌, ◌-◌, ◌≤◌, ◌<◌}
-use mathlib.Core.Path.{◌≡◌, refl, sym}
+use mathlib.Core.Path.{◌≡◌, refl, sym, ◌∙◌, ap}
 use mathlib.Core.List.{List}
 use mathlib.Core.Bool.{true, false}
 use native.Mathlib.Omega.{arith}
 use borrow.Author.Tests.{lt-ltb, le-ltb, ltb-true, ltb-false}
-use lib.ListN.{get_or}
+use lib.ListN.{length, get_or, take}
+use lib.Seq.{length-take-le, get_or-take}
 use lib.Dec.{ltb}
 use Rattle.basis.specs.Tests.{pick, every}
-use Rattle.basis.proofs.TestLaws.{by_test, refuted, every-at}
+use Rattle.basis.proofs.TestLaws.{by_test, refuted, every-at, every-all}
 use Rattle.table.specs.declared.Table.{Table}
 use Rattle.state.specs.State.{last_clock}
 use Rattle.scheduler.specs.Taken.{mask_ok}
-use Rattle.runs.specs.Stopping.{step_refusal, Stops}
-use Rattle.runs.specs.Stopping.{Halt}
+use Rattle.runs.specs.Stopping.{Halt, step_refusal, Stops}
 
 module _ (t : Table) (clock mask : ℕ) where
   pub refuses_18 : mask_ok t mask ≡ false → step_refusal t clock mask ≡ 18
@@ -55,6 +55,18 @@ module _ (t : Table) (clock : ℕ) (masks : List ℕ) (whole early n : ℕ) (few
   pub stops_before : (why : ℕ) → (n ≡ whole → ⊥) → why ≡ step_refusal t (clock + n) (get_or masks n 0) → Stops t clock masks whole (record { n = n; why = why })
   stops_before why d e =
       record { within = omega arith; passed = passed; stopped = λ h. (omega (arith, some h, e), sym e); ended = λ q. absurd (d q) }
+
+-- Masks at the front that pass are masks of the whole.
+module _ (t : Table) (masks : List ℕ) (most n : ℕ) (few : most ≤ length masks) where
+  pub front_long : length (take most masks) ≡ most
+  front_long = length-take-le most masks few
+
+  pub front_passes : n ≤ length (take most masks) → every n (λ k. mask_ok t (get_or (take most masks) k 0)) ≡ true
+      → every n (λ k. mask_ok t (get_or masks k 0)) ≡ true
+  front_passes h p = every-all _ n (λ k l. ap (mask_ok t) (sym (get_or-take most masks k 0 (omega (arith, front_long)))) ∙ every-at _ n k p l)
+
+  pub front_stops : (n < length (take most masks) → mask_ok t (get_or (take most masks) n 0) ≡ false) → n < most → mask_ok t (get_or masks n 0) ≡ false
+  front_stops p l = ap (mask_ok t) (sym (get_or-take most masks n 0 l)) ∙ p (omega (arith, front_long))
 
 -- The clock after the steps that are not refused.
 pub stop_early : (t : Table) (clock : ℕ) (masks : List ℕ) (whole : ℕ) (b : Halt) → clock ≤ last_clock → Stops t clock masks whole b → clock + b.n ≤ last_clock

@@ -16,7 +16,7 @@ use basis::Refusal;
 pub use frame::{Frame, Window};
 use frame::{domain_at, frame_passes};
 use state::has_event;
-pub use state::{Progress, State, fits, fresh};
+pub use state::{LAST_CLOCK, Progress, State, fits, fresh};
 use table::{Table, legal};
 pub use walk::Answer;
 use walk::{Prepared, advance, narrow, prepare};
@@ -45,11 +45,7 @@ fn takes_events(t: Table, i: u8) -> bool
     requires { i < 32 }
     ensures { result ≡ and (ltb i t.count) (eqb (thread t i).kind 1) }
 {
-    if t.count <= i {
-        return false;
-    }
-    let th = t.threads[i as usize];
-    th.kind == 1
+    i < t.count && t.threads[i as usize].kind == 1
 }
 
 // Whether bit i of a mask is not set, or is that of an event thread.
@@ -57,10 +53,7 @@ fn bit_passes(t: Table, mask: u32, i: u8) -> bool
     requires { i < 32 }
     ensures { result ≡ or (not (has_event mask i)) (and (ltb i t.count) (eqb (thread t i).kind 1)) }
 {
-    if has_event(mask, i) {
-        return takes_events(t, i);
-    }
-    true
+    !has_event(mask, i) || takes_events(t, i)
 }
 
 // Whether a mask has bits of event threads only.
@@ -74,9 +67,6 @@ pub fn mask_passes(t: Table, mask: u32) -> bool
     }
     true
 }
-
-// From this clock on no step is made.
-const END_CLOCK: u32 = 1000000000;
 
 // A prepared step of a table that is known to be legal: 12, 13, 18, 14, or the answer and the next state.
 fn step_over(t: Table, p: Prepared, s: State, mask: u32, bytes: &[u8]) -> Stepped
@@ -93,7 +83,7 @@ fn step_over(t: Table, p: Prepared, s: State, mask: u32, bytes: &[u8]) -> Steppe
     if !mask_passes(t, mask) {
         return refuse(Refusal::EventMask, s);
     }
-    if END_CLOCK <= s.clock {
+    if LAST_CLOCK <= s.clock {
         return refuse(Refusal::LastClock, s);
     }
     let w = advance(t, p, s, mask, bytes);

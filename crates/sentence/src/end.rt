@@ -1,119 +1,76 @@
 // Where the input, a line or a field ends too early or too late: 1 and 10.
-use super::Cause;
-use super::form::{explain_stray, is_stray};
-use super::name::{Spot, put_name, put_subject, spot_behind, spot_of};
-use super::put::{put, put_text};
+use super::digits::{explain_stray, is_stray};
+use super::name::{Spot, Subject, spot_of};
+use super::page::put;
+use super::{Cause, Form, Found};
 
 // Whether a line ends behind a number, by the number after it.
 fn is_last(s: Spot, next: Spot) -> bool {
-    if s.group != next.group {
-        return true;
+    match (s, next) {
+        (Spot::Head(_), Spot::Head(_)) => false,
+        (Spot::Field(i, _), Spot::Field(j, _)) => i != j,
+        _ => true,
     }
-    s.index != next.index
 }
 
 // The input ends before a number or inside it.
-fn explain_cut(out: &mut [u8], what: &[u8], c: Cause, s: Spot) -> usize {
-    let k = put_text(out, 0, what);
-    let n = put_where(out, k, c.ended);
-    let m = put_name(out, n, s);
-    put_text(out, m, b"\n")
+fn explain_cut(out: &mut [u8], what: &str, c: &Cause, s: Spot) -> usize {
+    let place = if c.found == Found::Nothing {
+        "before"
+    } else {
+        "inside"
+    };
+    put(out, format_args!("{what} {place} {s}\n"))
 }
 
-fn put_where(out: &mut [u8], at: usize, ended: bool) -> usize {
-    if ended {
-        return put_text(out, at, b" before ");
-    }
-    put_text(out, at, b" inside ")
-}
-
-// The text ends with the last field of a line.
-fn explain_open_line(out: &mut [u8], s: Spot) -> usize {
-    let k = put_text(out, 0, b"the text ends with ");
-    let n = put_name(out, k, s);
-    put_text(out, n, b", and the end of the line (CR LF) is missing\n")
-}
-
-fn explain_empty(out: &mut [u8], s: Spot) -> usize {
-    let k = put_subject(out, 0, s);
-    put_text(out, k, b" is missing\n")
-}
-
-// A line ends where a comma is due.
-fn explain_short_line(out: &mut [u8], s: Spot, next: Spot) -> usize {
-    let k = put_text(out, 0, b"the line ends behind ");
-    let n = put_name(out, k, s);
-    let m = put_text(out, n, b", and ");
-    let e = put_name(out, m, next);
-    put_text(out, e, b" is missing\n")
-}
-
-// A comma where a line has to end.
-fn explain_long_line(out: &mut [u8], s: Spot) -> usize {
-    let k = put_text(out, 0, b"a comma stands behind ");
-    let n = put_name(out, k, s);
-    put_text(out, n, b", where the line has to end\n")
-}
-
-fn explain_field_end(out: &mut [u8], c: Cause, s: Spot, next: Spot) -> usize {
+// 1 in the comma form: a line ends where a comma is due, or what stands there is no field.
+fn explain_field_end(out: &mut [u8], c: &Cause, s: Spot, next: Spot) -> usize {
     if c.behind {
-        return explain_short_line(out, s, next);
-    }
-    if c.empty {
-        return explain_empty(out, s);
-    }
-    if is_stray(c) {
-        return explain_stray(out, c, s);
-    }
-    if c.ended {
-        return explain_cut(out, b"the text ends", c, s);
-    }
-    if is_last(s, next) {
-        return explain_open_line(out, s);
-    }
-    explain_cut(out, b"the text ends", c, s)
-}
-
-// 1.
-pub fn explain_end(out: &mut [u8], sheet: bool, c: Cause, s: Spot) -> usize {
-    if !sheet {
-        return explain_cut(out, b"the bytes end", c, s);
-    }
-    let next = spot_behind(c, c.at);
-    explain_field_end(out, c, s, next)
-}
-
-// The last thread, where the table has one, and what follows it.
-fn explain_after(out: &mut [u8], sheet: bool, threads: u16) -> usize {
-    if threads == 0 {
-        return put_text(out, 0, b"there is text after the last line\n");
-    }
-    let last = (threads - 1) as u64;
-    if sheet {
         return put(
             out,
-            0,
-            b"there is text after the line of thread #, which is the last\n",
-            last,
-            0,
-            0,
+            format_args!("the line ends behind {s}, and {next} is missing\n"),
         );
     }
-    put(
-        out,
-        0,
-        b"there are bytes after those of thread #, which is the last\n",
-        last,
-        0,
-        0,
-    )
+    match c.found {
+        Found::Empty => {
+            let s = Subject(s);
+            put(out, format_args!("{s} is missing\n"))
+        }
+        Found::Strange(sign) if is_stray(sign) => explain_stray(out, sign, s),
+        Found::Digits | Found::Strange(_) if is_last(s, next) => put(
+            out,
+            format_args!("the text ends with {s}, and the end of the line (CR LF) is missing\n"),
+        ),
+        _ => explain_cut(out, "the text ends", c, s),
+    }
 }
 
-// 10.
-pub fn explain_rest(out: &mut [u8], sheet: bool, c: Cause) -> usize {
-    if c.behind {
-        let s = spot_of(c, c.at);
-        return explain_long_line(out, s);
+// 1, at number k.
+pub fn explain_end(out: &mut [u8], form: Form, c: &Cause, k: usize, s: Spot) -> usize {
+    match form {
+        Form::Bytes => explain_cut(out, "the bytes end", c, s),
+        Form::Sheet => explain_field_end(out, c, s, spot_of(c, k.saturating_add(1))),
     }
-    explain_after(out, sheet, c.numbers[2])
+}
+
+// 10: behind a number, or behind the last thread, where the table has one.
+pub fn explain_rest(out: &mut [u8], form: Form, c: &Cause) -> usize {
+    if let (true, Some(k)) = (c.behind, c.at) {
+        let s = spot_of(c, k);
+        return put(
+            out,
+            format_args!("a comma stands behind {s}, where the line has to end\n"),
+        );
+    }
+    match (c.numbers[2].checked_sub(1), form) {
+        (None, _) => put(out, "there is text after the last line\n"),
+        (Some(last), Form::Sheet) => put(
+            out,
+            format_args!("there is text after the line of thread {last}, which is the last\n"),
+        ),
+        (Some(last), Form::Bytes) => put(
+            out,
+            format_args!("there are bytes after those of thread {last}, which is the last\n"),
+        ),
+    }
 }

@@ -1,84 +1,92 @@
 // Refusals in words, for people: one sentence, ended by LF, that names the field, the thread or what is missing.
-// No sentence is longer than 200 bytes. What has no room in the lent buffer is left out.
+// No sentence is longer than 200 bytes. One that has no room in the lent buffer is left out.
 #![tactic(auto)]
 
+mod digits;
 mod end;
-mod form;
 mod name;
-mod place;
-mod put;
+mod page;
 mod range;
 mod search;
 mod step;
 
+use basis::Refusal;
 use name::{Spot, spot_of};
-pub use place::{find, row_cause};
-use put::put;
+use page::put;
+pub use search::{find, row_cause};
 use sheet::MOST;
 pub use step::{
-    explain_absent, explain_byte, explain_drive, explain_event, explain_frame, explain_other,
-    explain_short,
+    Named, explain_absent, explain_byte, explain_drive, explain_event, explain_frame,
+    explain_other, explain_short,
 };
 
-// What stands where a table is refused: the index of the number (MOST: none is known), its value (0 where it is no number), whether the
-// fault is the end behind it, whether nothing is left of the input there, and the numbers before it. In the comma form also whether the
-// field is empty, and the first character in it that is no digit, where there is one.
-#[derive(Clone, Copy)]
+// The bytes of a table, or its comma form.
+#[derive(Clone, Copy, Debug, PartialEq, Eq)]
+pub enum Form {
+    Bytes,
+    Sheet,
+}
+
+// What stands at a place, taken for a field of the comma form.
+#[derive(Clone, Copy, Debug, PartialEq, Eq)]
+pub enum Found {
+    // nothing is left of the input
+    Nothing,
+    // the end of a field
+    Empty,
+    // digits up to the end of a field
+    Digits,
+    // this character, which is no digit, perhaps behind digits
+    Strange(u8),
+}
+
+// What stands where a table is refused: the index of the number and its value, where they are known, whether the fault is the end behind
+// it, what is found there, and the numbers before it.
+#[derive(Clone, Copy, Debug, PartialEq, Eq)]
 pub struct Cause {
-    pub at: usize,
-    pub value: u16,
+    pub at: Option<usize>,
+    pub value: Option<u16>,
     pub behind: bool,
-    pub ended: bool,
-    pub empty: bool,
-    pub strange: bool,
-    pub sign: u8,
+    pub found: Found,
     pub numbers: [u16; MOST],
 }
 
-// A refusal of a table, in bytes or in the comma form. For 7 there is `explain_gap`.
-pub fn explain(out: &mut [u8], why: u8, sheet: bool, c: Cause) -> usize {
-    if why == 10 {
-        return end::explain_rest(out, sheet, c);
+// A refusal of a table, in bytes or in the comma form.
+pub fn explain(out: &mut [u8], why: Refusal, form: Form, c: Cause) -> usize {
+    match (why, c.at) {
+        (Refusal::Extra, _) => end::explain_rest(out, form, &c),
+        (Refusal::Intransitive { a, b, c }, _) => explain_gap(out, a, b, c),
+        (_, Some(k)) => explain_number(out, why, form, &c, k),
+        (_, None) => explain_other(out, why),
     }
-    if MOST <= c.at {
-        return explain_other(out, why);
-    }
-    let s = spot_of(c, c.at);
-    if is_row_too_many(s) {
-        return range::explain_count(out, c, s);
-    }
-    explain_number(out, why, sheet, c, s)
 }
 
-// Whether a row stands behind the sixteenth, in a line of rows.
-fn is_row_too_many(s: Spot) -> bool {
-    if s.group != 1 {
-        return false;
-    }
-    15 < s.index
-}
-
-// A refusal of the number that stands at a spot.
-fn explain_number(out: &mut [u8], why: u8, sheet: bool, c: Cause, s: Spot) -> usize {
-    match why {
-        1 => end::explain_end(out, sheet, c, s),
-        2 => form::explain_form(out, sheet, c, s),
-        3 => form::explain_large(out, s),
-        4 => range::explain_version(out, c),
-        5 => range::explain_count(out, c, s),
-        6 => range::explain_row(out, c, s),
-        8 => range::explain_field(out, c, s),
-        9 => range::explain_priority(out, c, s),
+// A refusal of number k.
+fn explain_number(out: &mut [u8], why: Refusal, form: Form, c: &Cause, k: usize) -> usize {
+    let s = spot_of(c, k);
+    let v = c.value.unwrap_or(0);
+    match (why, s) {
+        // behind the sixteenth in a line of rows
+        (_, Spot::Row(i)) if 15 < i => range::explain_rows(out),
+        (Refusal::EndsEarly, _) => end::explain_end(out, form, c, k, s),
+        (Refusal::NotShortest, _) => digits::explain_form(out, form, c, s),
+        (Refusal::TooLarge, _) => digits::explain_large(out, s),
+        (Refusal::Version, _) => range::explain_version(out, v),
+        (Refusal::Count, Spot::Head(head)) => range::explain_count(out, v, head),
+        (Refusal::Count, _) => range::explain_rows(out),
+        (Refusal::Row, Spot::Row(i)) => range::explain_row(out, c, v, i),
+        (Refusal::Field, Spot::Field(i, field)) => range::explain_field(out, c, v, k, i, field),
+        (Refusal::PriorityTaken, Spot::Field(i, _)) => range::explain_priority(out, c, v, i),
         _ => explain_other(out, why),
     }
 }
 
 // 7: the first a, b, c where a flows to b and b to c, and a not to c.
 pub fn explain_gap(out: &mut [u8], a: u8, b: u8, c: u8) -> usize {
-    let x = a as u64;
-    let y = b as u64;
-    let z = c as u64;
-    let k = put(out, 0, b"domain # may flow to # and # ", x, y, y);
-    let n = put(out, k, b"to #, but # not ", z, x, 0);
-    put(out, n, b"to #: the pair # # is missing\n", z, x, z)
+    put(
+        out,
+        format_args!(
+            "domain {a} may flow to {b} and {b} to {c}, but {a} not to {c}: the pair {a} {c} is missing\n"
+        ),
+    )
 }

@@ -1,282 +1,121 @@
 // Numbers out of their range: 4, 5, 6, 8 and 9.
 use super::Cause;
-use super::name::{Spot, spot_of};
-use super::put::{put, put_text};
+use super::name::{Field, Head, Spot, Subject, spot_of};
+use super::page::put;
+use super::step::explain_other;
+use basis::Refusal;
 use sheet::MOST;
 
+impl Cause {
+    // The number at an index, 0 behind the last.
+    fn number(&self, k: usize) -> u16 {
+        self.numbers.get(k).copied().unwrap_or(0)
+    }
+
+    // An earlier field of the thread that has number k for this field; 0 where there is none.
+    fn earlier(&self, k: usize, field: Field, of: Field) -> u16 {
+        let back = (field as usize).saturating_sub(of as usize);
+        k.checked_sub(back).map_or(0, |j| self.number(j))
+    }
+}
+
 // 4.
-pub fn explain_version(out: &mut [u8], c: Cause) -> usize {
+pub fn explain_version(out: &mut [u8], v: u16) -> usize {
+    put(out, format_args!("the version is {v}: there are 1 and 2\n"))
+}
+
+// 5.
+pub fn explain_count(out: &mut [u8], v: u16, head: Head) -> usize {
+    let most = if head == Head::Domains { 16 } else { 32 };
     put(
         out,
-        0,
-        b"the version is #: there are 1 and 2\n",
-        c.value as u64,
-        0,
-        0,
+        format_args!("{head} is {v}: 1 to {most} are possible\n"),
     )
 }
 
-// 5, or a line of more than 16 rows.
-pub fn explain_count(out: &mut [u8], c: Cause, s: Spot) -> usize {
-    if s.group != 0 {
-        return put_text(
-            out,
-            0,
-            b"there are more than 16 rows: 1 to 16 are possible\n",
-        );
-    }
-    let v = c.value as u64;
-    if s.field == 1 {
-        return put(
-            out,
-            0,
-            b"the number of domains is #: 1 to 16 are possible\n",
-            v,
-            0,
-            0,
-        );
-    }
-    put(
-        out,
-        0,
-        b"the number of threads is #: 1 to 32 are possible\n",
-        v,
-        0,
-        0,
-    )
+// 5, of a line of more than 16 rows.
+pub fn explain_rows(out: &mut [u8]) -> usize {
+    put(out, "there are more than 16 rows: 1 to 16 are possible\n")
 }
 
-// The number below, 0 for 0.
-fn before(n: u16) -> u64 {
-    if n == 0 {
-        return 0;
-    }
-    (n - 1) as u64
-}
-
-// The first bit of a row from a domain on, 16 where none is set.
-fn first_bit(row: u16, from: u16) -> u16 {
-    for j in from..16 {
-        if (row >> j) % 2 == 1 {
-            return j;
-        }
-    }
-    16
-}
-
-// What a domain's bit counts in a row.
-fn bit_value(i: u64) -> u64 {
-    if 16 <= i {
-        return 0;
-    }
-    1u64 << i
+// What a domain's bit counts in a row, 0 where it has none.
+fn bit_value(i: usize) -> u64 {
+    if i < 16 { 1 << i } else { 0 }
 }
 
 // 6: a bit for a domain that the table lacks, or without its own.
-pub fn explain_row(out: &mut [u8], c: Cause, s: Spot) -> usize {
-    let v = c.value;
+pub fn explain_row(out: &mut [u8], c: &Cause, v: u16, i: usize) -> usize {
     let domains = c.numbers[1];
-    let i = s.index;
-    let j = first_bit(v, domains);
-    if j < 16 {
-        let k = put(
+    let last = domains.saturating_sub(1);
+    match (domains..16).find(|&j| (v >> j) % 2 == 1) {
+        Some(j) => put(
             out,
-            0,
-            b"the row of domain # is #: it has a bit for domain #",
-            i,
-            v as u64,
-            j as u64,
-        );
-        return put(
-            out,
-            k,
-            b", and the last domain is #\n",
-            before(domains),
-            0,
-            0,
-        );
-    }
-    put(
-        out,
-        0,
-        b"the row of domain # is #: it lacks its own bit, which counts #\n",
-        i,
-        v as u64,
-        bit_value(i),
-    )
-}
-
-// The number at an index, 0 behind the last.
-fn number_at(c: Cause, k: usize) -> u64 {
-    if MOST <= k {
-        return 0;
-    }
-    c.numbers[k] as u64
-}
-
-// An earlier field of the same thread.
-fn field_of(c: Cause, s: Spot, j: u8) -> u64 {
-    if s.field <= j {
-        return 0;
-    }
-    let back = (s.field - j) as usize;
-    if c.at < back {
-        return 0;
-    }
-    number_at(c, c.at - back)
-}
-
-fn explain_period(out: &mut [u8], i: u64, v: u64) -> usize {
-    if v == 0 {
-        return put(
-            out,
-            0,
-            b"thread #: its period is 0, and 1 is the least\n",
-            i,
-            0,
-            0,
-        );
-    }
-    put(out, 0, b"thread #: its period # is above 60000\n", i, v, 0)
-}
-
-fn explain_budget(out: &mut [u8], i: u64, v: u64, period: u64) -> usize {
-    if v == 0 {
-        return put(
-            out,
-            0,
-            b"thread #: its budget is 0, and 1 is the least\n",
-            i,
-            0,
-            0,
-        );
-    }
-    put(
-        out,
-        0,
-        b"thread #: its budget # is above its period #\n",
-        i,
-        v,
-        period,
-    )
-}
-
-fn explain_deadline(out: &mut [u8], i: u64, v: u64, period: u64, budget: u64) -> usize {
-    if v < budget {
-        return put(
-            out,
-            0,
-            b"thread #: its deadline # is below its budget #\n",
-            i,
-            v,
-            budget,
-        );
-    }
-    put(
-        out,
-        0,
-        b"thread #: its deadline # is above its period #\n",
-        i,
-        v,
-        period,
-    )
-}
-
-fn explain_kind(out: &mut [u8], i: u64, v: u64, offset: u64) -> usize {
-    if v == 1 {
-        return put(
-            out,
-            0,
-            b"thread #: its kind is 1 (event), so its offset has to be 0 and not #\n",
-            i,
-            offset,
-            0,
-        );
-    }
-    put(
-        out,
-        0,
-        b"thread #: its kind is #, and there are 0 (periodic) and 1 (event)\n",
-        i,
-        v,
-        0,
-    )
-}
-
-// 8: by the field and what its range depends on.
-pub fn explain_field(out: &mut [u8], c: Cause, s: Spot) -> usize {
-    let i = s.index;
-    let v = c.value as u64;
-    let domains = c.numbers[1];
-    let period = field_of(c, s, 2);
-    let offset = field_of(c, s, 3);
-    let budget = field_of(c, s, 4);
-    let field = s.field;
-    match field {
-        0 => put(
-            out,
-            0,
-            b"thread #: its domain is #, and the last domain is #\n",
-            i,
-            v,
-            before(domains),
+            format_args!(
+                "the row of domain {i} is {v}: it has a bit for domain {j}, and the last domain is {last}\n"
+            ),
         ),
-        1 => put(out, 0, b"thread #: its priority # is above 255\n", i, v, 0),
-        2 => explain_period(out, i, v),
-        3 => put(
-            out,
-            0,
-            b"thread #: its offset # is not below its period #\n",
-            i,
-            v,
-            period,
-        ),
-        4 => explain_budget(out, i, v, period),
-        5 => explain_deadline(out, i, v, period, budget),
-        6 => put(
-            out,
-            0,
-            b"thread #: its blocking share # is above its budget #\n",
-            i,
-            v,
-            budget,
-        ),
-        _ => explain_kind(out, i, v, offset),
-    }
-}
-
-// Whether number k is a thread's priority of this value.
-fn is_priority(c: Cause, k: usize, v: u16) -> bool {
-    let s = spot_of(c, k);
-    if s.group != 2 {
-        return false;
-    }
-    if s.field != 1 {
-        return false;
-    }
-    number_at(c, k) == v as u64
-}
-
-// The index of the first priority of this value.
-fn first_priority(c: Cause, v: u16) -> usize {
-    for k in 0..MOST {
-        if is_priority(c, k, v) {
-            return k;
+        None => {
+            let own = bit_value(i);
+            put(
+                out,
+                format_args!(
+                    "the row of domain {i} is {v}: it lacks its own bit, which counts {own}\n"
+                ),
+            )
         }
     }
-    MOST
+}
+
+// 8, at number k: by the field and what its range depends on.
+pub fn explain_field(out: &mut [u8], c: &Cause, v: u16, k: usize, i: usize, field: Field) -> usize {
+    let s = Subject(Spot::Field(i, field));
+    let earlier = |of| c.earlier(k, field, of);
+    let (how, of) = match field {
+        Field::Domain => {
+            let last = c.numbers[1].saturating_sub(1);
+            return put(
+                out,
+                format_args!("{s} is {v}, and the last domain is {last}\n"),
+            );
+        }
+        Field::Priority => return put(out, format_args!("{s} {v} is above 255\n")),
+        Field::Period | Field::Budget if v == 0 => {
+            return put(out, format_args!("{s} is 0, and 1 is the least\n"));
+        }
+        Field::Period => return put(out, format_args!("{s} {v} is above 60000\n")),
+        Field::Kind if v == 1 => {
+            let offset = earlier(Field::Offset);
+            return put(
+                out,
+                format_args!("{s} is 1 (event), so its offset has to be 0 and not {offset}\n"),
+            );
+        }
+        Field::Kind => {
+            return put(
+                out,
+                format_args!("{s} is {v}, and there are 0 (periodic) and 1 (event)\n"),
+            );
+        }
+        Field::Deadline if v < earlier(Field::Budget) => ("below", Field::Budget),
+        Field::Offset => ("not below", Field::Period),
+        Field::Budget | Field::Deadline => ("above", Field::Period),
+        Field::Blocking => ("above", Field::Budget),
+    };
+    let bound = earlier(of);
+    put(out, format_args!("{s} {v} is {how} its {of} {bound}\n"))
 }
 
 // 9: with the thread that has it already.
-pub fn explain_priority(out: &mut [u8], c: Cause, s: Spot) -> usize {
-    let k = first_priority(c, c.value);
-    let t = spot_of(c, k);
-    put(
-        out,
-        0,
-        b"thread #: its priority # is that of thread #\n",
-        s.index,
-        c.value as u64,
-        t.index,
-    )
+pub fn explain_priority(out: &mut [u8], c: &Cause, v: u16, i: usize) -> usize {
+    let holder = (0..MOST).find_map(|k| match spot_of(c, k) {
+        Spot::Field(t, Field::Priority) if c.number(k) == v => Some(t),
+        _ => None,
+    });
+    match holder {
+        Some(t) => put(
+            out,
+            format_args!("thread {i}: its priority {v} is that of thread {t}\n"),
+        ),
+        None => explain_other(out, Refusal::PriorityTaken),
+    }
 }

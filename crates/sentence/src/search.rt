@@ -1,111 +1,90 @@
 // Reading number after number until one starts, or ends wrong, at a place.
-use numeral::{Number, read_number};
+use super::{Cause, Form, Found};
+use basis::Refusal;
+use numeral::{Numeral, read_number};
 use sheet::{MOST, read_field};
 
-// Whether the place was met, the index and the start of the next number, its value at that place, whether its end is meant, and the
-// numbers before it.
-#[derive(Clone, Copy)]
-pub struct Search {
-    pub done: bool,
-    pub at: usize,
-    pub next: usize,
-    pub value: u16,
-    pub behind: bool,
-    pub numbers: [u16; MOST],
-}
-
-pub fn byte_at(text: &[u8], at: usize) -> u8 {
-    if at < text.len() {
-        return text[at];
+fn number_at(text: &[u8], form: Form, at: usize) -> Result<Numeral, Refusal> {
+    match form {
+        Form::Bytes => read_number(text, at),
+        Form::Sheet => read_field(text, at),
     }
-    0
-}
-
-fn number_at(text: &[u8], sheet: bool, at: usize) -> Number {
-    if sheet {
-        return read_field(text, at);
-    }
-    read_number(text, at)
 }
 
 // The start of the next number, behind a comma or a CRLF in the comma form.
-fn start_behind(text: &[u8], sheet: bool, end: usize) -> usize {
-    if !sheet {
-        return end;
-    }
-    if text.len() <= end {
-        return end;
-    }
-    if text[end] == 44 {
-        return end + 1;
-    }
-    end + 2
-}
-
-// The place is met, at the number or at its end.
-fn found(s: Search, value: u16, behind: bool) -> Search {
-    let numbers = s.numbers;
-    Search {
-        done: true,
-        at: s.at,
-        next: s.next,
-        value,
-        behind,
-        numbers,
+fn start_behind(text: &[u8], form: Form, end: usize) -> usize {
+    match (form, text.get(end)) {
+        (Form::Bytes, _) | (_, None) => end,
+        (_, Some(b',')) => end + 1,
+        _ => end + 2,
     }
 }
 
-// No number is there, so the place is met or never will be.
-fn lost(place: usize, s: Search) -> Search {
-    if s.next == place {
-        return found(s, 0, false);
-    }
-    let numbers = s.numbers;
-    Search {
-        done: true,
-        at: MOST,
-        next: s.next,
-        value: 0,
-        behind: false,
-        numbers,
+// What stands at a place, taken for a field of the comma form; in a line of rows LF alone ends it too.
+fn found_at(text: &[u8], place: usize, line: bool) -> Found {
+    let Some(rest) = text.get(place..) else {
+        return Found::Nothing;
+    };
+    let digits = rest
+        .iter()
+        .position(|b| !b.is_ascii_digit())
+        .unwrap_or(rest.len());
+    match &rest[digits..] {
+        [] if rest.is_empty() => Found::Nothing,
+        [] | [b',', ..] | [b'\r', b'\n', ..] if digits == 0 => Found::Empty,
+        [] | [b',', ..] | [b'\r', b'\n', ..] => Found::Digits,
+        [b'\n', ..] if line && digits == 0 => Found::Empty,
+        [b'\n', ..] if line => Found::Digits,
+        [sign, ..] => Found::Strange(*sign),
     }
 }
 
-// A number with its end, which counts in the comma form only.
-fn pass(text: &[u8], sheet: bool, place: usize, s: Search, v: u16, end: usize) -> Search {
-    let at = s.at;
-    if MOST <= at {
-        return lost(place, s);
-    }
-    if s.next == place {
-        return found(s, v, false);
-    }
-    if sheet {
-        if end == place {
-            return found(s, v, true);
+// The number or the end at which a table is refused, in bytes or in the comma form: there only what is found at the place counts as one
+// of the comma form.
+pub fn find(text: &[u8], form: Form, place: usize) -> Cause {
+    let found = found_at(text, place, false);
+    let mut numbers = [0u16; MOST];
+    let mut next = 0;
+    for at in 0..MOST {
+        let read = number_at(text, form, next);
+        let starts = next == place;
+        let ends = form == Form::Sheet && read.is_ok_and(|n| n.next == place);
+        if starts || ends {
+            return Cause {
+                at: Some(at),
+                value: read.ok().map(|n| n.value),
+                behind: !starts,
+                found,
+                numbers,
+            };
         }
+        let Ok(n) = read else { break };
+        numbers[at] = n.value;
+        next = start_behind(text, form, n.next);
     }
-    let mut numbers = s.numbers;
-    numbers[at] = v;
-    let next = start_behind(text, sheet, end);
-    Search {
-        done: false,
-        at: at + 1,
-        next,
-        value: 0,
+    Cause {
+        at: None,
+        value: None,
         behind: false,
+        found,
         numbers,
     }
 }
 
-// One number more.
-pub fn seek(text: &[u8], sheet: bool, place: usize, s: Search) -> Search {
-    if s.done {
-        return s;
-    }
-    let n = number_at(text, sheet, s.next);
-    match n {
-        Number::Value(v, end) => pass(text, sheet, place, s, v, end),
-        Number::Refused(_) => lost(place, s),
+// The row of domain i, at a place in the text of a line of rows that is refused there, with its value and how many rows there are, where
+// that is known. From row 16 on it only counts that there are more.
+pub fn row_cause(text: &[u8], place: usize, i: u8, value: Option<u16>, rows: Option<u8>) -> Cause {
+    let mut numbers = [0u16; MOST];
+    // enough for row i, where the count is not known
+    numbers[1] = match rows {
+        Some(n) if i < n => n as u16,
+        _ => i as u16 + 1,
+    };
+    Cause {
+        at: Some(3 + i as usize),
+        value,
+        behind: false,
+        found: found_at(text, place, true),
+        numbers,
     }
 }

@@ -15,10 +15,9 @@ use Rattle.basis.proofs.TestLaws.{either, and_both, and-false}
 use Rattle.numeral.specs.Number.{Number}
 use Rattle.numeral.specs.Number.{Value, Refused}
 use Rattle.codec.specs.Judging.{wanted}
-use Rattle.sheet.specs.declared.Cutting.{Cutting}
 use Rattle.sheet.specs.Field.{field_at}
 use Rattle.sheet.specs.Sheet.{most_numbers}
-use Rattle.sheet.specs.Scan.{cut_numbers, number_cut, none_cut, field_cut, goes_on, turned, scanned, cut_bytes, ends_wrong}
+use Rattle.sheet.specs.Scan.{Cutting, told_cut, cut_numbers, number_cut, none_cut, field_cut, goes_on, turned, scanned, cut_bytes, ends_wrong}
 use Rattle.sheet.proofs.FieldRuns.{field_back}
 use Rattle.sheet.proofs.EncodeLaws.{Low, low_none, low_next, all_short}
 
@@ -121,7 +120,8 @@ scan_past s k n zero p = rw add-zero p
 scan_past s k n (suc m) p = rw (add-suc n m) (turned_past s k (scanned s (n + m)) (scan_past s k n m p))
 
 -- The bytes of what was cut have room in three for each number.
-pub cut_short : (s : List ℕ) (c : Cutting) → c ≡ scanned s most_numbers → Kept c × (length (cut_bytes c) ≤ 3 * most_numbers)
+pub cut_short : (s : List ℕ) (c : Cutting) → c ≡ told_cut (scanned s most_numbers) → Kept c × (length (cut_bytes c) ≤ 3 * most_numbers)
 cut_short s c e =
-    let k : Kept c = subst Kept (sym e) (scan_kept s most_numbers) in
+    let m : Kept (scanned s most_numbers) = scan_kept s most_numbers in
+    let k : Kept c = subst Kept (sym e) (record { long = m.long; short = m.short; low = m.low }) in
     (k, omega (arith, all_short (cut_numbers c), kept-count k, k.short))

@@ -1,17 +1,25 @@
 -- A field character by character: where it ends, whether it is digits, and its value.
-use Prim.Native.Nat.{ℕ, suc, ◌+◌, ◌-◌, ◌*◌, ◌≤◌, ◌<◌}
+use Prim.Native.Nat.{ℕ, suc, ◌+◌, ◌-◌, ◌*◌, ◌≤◌, ◌<◌, max}
 use mathlib.Core.Path.{◌≡◌, refl, sym, ◌∙◌, ap}
 use mathlib.Core.List.{List, [], ◌∷◌}
-use mathlib.Core.Bool.{Bool, true, false, true≢false}
+use mathlib.Core.Bool.{true, false, true≢false}
 use native.Mathlib.Omega.{arith}
 use lib.ListN.{length, get_or, take, drop, length-drop, drop_of_length-le}
+use lib.Seq.{take-length}
 use lib.Dec.{eqb, ltb, leb}
-use borrow.Author.Tests.{le-leb, lt-leb, leb-true, ltb-true, ltb-false, lt-ltb, le-ltb, eq-eqb, ne_eqb}
+use borrow.Author.Tests.{le-leb, leb-true, ltb-true, ltb-false, lt-ltb, le-ltb, eq-eqb, ne_eqb}
+use Rattle.std.specs.List.{list_all}
+use Rattle.std.specs.Char.{is_ascii_digit}
 use Rattle.basis.specs.Tests.{pick, and}
 use Rattle.basis.proofs.TestLaws.{by_test, and_both, or-true}
 use Rattle.basis.proofs.ListLaws.{drop-some}
-use Rattle.numeral.specs.Number.{Value, Refused}
-use Rattle.sheet.specs.Field.{field_ends, field, is_digit, all_digits, zero_first, value_from, judged_digits, field_number, field_at, at_most}
+use Rattle.std.specs.Prelude.{Result, Ok, Err}
+use Rattle.std.specs.Result.{IsErrAnd}
+use Rattle.basis.specs.Refusals.{number}
+use Rattle.basis.specs.declared.refusal.Refusal.{Refusal}
+use Rattle.numeral.specs.declared.Numeral.{Numeral}
+use Rattle.numeral.specs.Number.{Number, Value, Refused, given}
+use Rattle.sheet.specs.Field.{field_ends, field, is_digit, all_digits, zero_first, value_from, judged_digits, field_number, field_at}
 
 -- The end of a text ends a field.
 pub ends_last : (s : List ℕ) (at : ℕ) → length s ≤ at → field_ends (drop at s) ≡ true
@@ -62,16 +70,6 @@ digits-next : (f : List ℕ) (i b : ℕ) → b ≡ get_or f i 0 → i < length f
 unfolding all_digits
 digits-next f i b e h = rw (drop-some f i b e h)
 
-pub digits-none : (f : List ℕ) (i : ℕ) → length f ≤ i → all_digits (drop i f) ≡ true
-unfolding all_digits
-digits-none f i h = rw (drop_of_length-le f h)
-
-is_digit_low : (b : ℕ) → b < 48 → is_digit b ≡ false
-is_digit_low b h = rw (lt-leb 48 b h)
-
-is_digit_high : (b : ℕ) → 48 ≤ b → 57 < b → is_digit b ≡ false
-is_digit_high b h k = rw (le-leb 48 b h) (lt-leb b 57 k)
-
 pub is_digit-within : (b : ℕ) → 48 ≤ b → b ≤ 57 → is_digit b ≡ true
 is_digit-within b h k = rw (le-leb 48 b h) (le-leb b 57 k)
 
@@ -97,51 +95,11 @@ unfolding value_from
 value_grows [] v = omega arith
 value_grows (b ∷ f) v = omega (arith, value_grows f (v * 10 + (b - 48)))
 
-most-above : (v : ℕ) → 65535 < v → at_most v ≡ 65536
-unfolding at_most pick
-most-above v h = rw (lt-ltb 65535 v h)
-
-most_below : (v : ℕ) → v ≤ 65535 → at_most v ≡ v
-unfolding at_most pick
-most_below v h = rw (le-ltb 65535 v h)
-
-over_most : (v : ℕ) → 65535 < at_most v → 65535 < v
-over_most v h = by_test (ltb 65535 v) (λ t. ltb-true _ _ t) (λ t. omega (arith, h, most_below v (ltb-false _ _ t)))
-
-most-same : (v : ℕ) → at_most v ≤ 65535 → at_most v ≡ v
-most-same v h = by_test (ltb 65535 v) (λ t. absurd (omega (arith, h, most-above v (ltb-true _ _ t)))) (λ t. most_below v (ltb-false _ _ t))
-
 -- A zero before another character, by the length.
-pub padded-short : (f : List ℕ) → length f < 2 → zero_first f ≡ false
-padded-short [] h = refl
-padded-short (b ∷ []) h = refl
-padded-short (b ∷ c ∷ f) h = absurd (omega arith)
-
 pub padded_long : (f : List ℕ) → 2 ≤ length f → zero_first f ≡ eqb (get_or f 0 0) 48
 padded_long [] h = absurd (omega arith)
 padded_long (b ∷ []) h = absurd (omega arith)
 padded_long (b ∷ c ∷ f) h = refl
-
--- Whether a field ends at a place, by the characters there.
-module _ (s : List ℕ) (at : ℕ) (h : at < length s) where
-  here : drop at s ≡ get_or s at 0 ∷ drop (at + 1) s
-  here = drop-some s at (get_or s at 0) refl h
-
-  pub at_comma : get_or s at 0 ≡ 44 → field_ends (drop at s) ≡ true
-  unfolding field_ends
-  at_comma q = rw (here, q)
-
-  pub at_other : (get_or s at 0 ≡ 44 → ⊥) → (get_or s at 0 ≡ 13 → ⊥) → field_ends (drop at s) ≡ false
-  unfolding field_ends
-  at_other p q = rw (here, ne_eqb (get_or s at 0) 44 p, ne_eqb (get_or s at 0) 13 q)
-
-  pub at_lone_return : get_or s at 0 ≡ 13 → length s ≤ at + 1 → field_ends (drop at s) ≡ false
-  unfolding field_ends
-  at_lone_return q l = rw (here, q, drop_of_length-le s l)
-
-  pub at_return : get_or s at 0 ≡ 13 → at + 1 < length s → field_ends (drop at s) ≡ eqb (get_or s (at + 1) 0) 10
-  unfolding field_ends
-  at_return q l = rw (here, q, drop-some s (at + 1) (get_or s (at + 1) 0) refl l)
 
 -- The field at a place, by its end.
 module _ (s : List ℕ) (at end : ℕ) (e : end ≡ at + length (field (drop at s))) where
@@ -177,50 +135,62 @@ module _ (end : ℕ) (f : List ℕ) where
     unfolding judged_digits pick
     judged_strange d = rw (z, d)
 
-    module _ (d : all_digits f ≡ true) (v : ℕ) (e : v ≡ at_most (value_from 0 f)) where
-      pub judged_over : 65535 < v → Refused 3 ≡ judged_digits end f
+    module _ (d : all_digits f ≡ true) where
+      pub judged_over : {n : ℕ} → n ≡ 3 → 65535 < value_from 0 f → Refused n ≡ judged_digits end f
       unfolding judged_digits pick
-      judged_over h = rw (z, d, lt-ltb 65535 (value_from 0 f) (over_most (value_from 0 f) (omega (arith, e, h))))
+      judged_over e h = rw (e, z, d, lt-ltb 65535 (value_from 0 f) h)
 
-      pub judged_value : v ≤ 65535 → Value v end ≡ judged_digits end f
+      pub judged_value : {v : ℕ} → v ≡ value_from 0 f → v ≤ 65535 → Value v end ≡ judged_digits end f
       unfolding judged_digits pick
-      judged_value h =
-          let q : v ≡ value_from 0 f = e ∙ most-same (value_from 0 f) (omega (arith, e)) in
-          rw (z, d, ← q, le-ltb 65535 v h)
+      judged_value {v} e h = rw (z, d, ← e, le-ltb 65535 v h)
 
 -- The walk along a field stands at end.
-pub record Along (s : List ℕ) (at end : ℕ) (over : Bool) : Type 0 where
-  pub rest : end + length (field (drop end s)) ≡ at + length (field (drop at s))
-  pub tells : over ≡ field_ends (drop end s)
+module _ (s : List ℕ) (at end : ℕ) (e : end + length (field (drop end s)) ≡ at + length (field (drop at s))) where
+  pub along_open : field_ends (drop end s) ≡ false → end + 1 + length (field (drop (end + 1) s)) ≡ at + length (field (drop at s))
+  along_open o = omega (arith, e, field_open s end o)
 
-pub along_open : {s : List ℕ} {at end : ℕ} {over : Bool} → Along s at end over → over ≡ false
-    → (end < length s) × (end + 1 + length (field (drop (end + 1) s)) ≡ at + length (field (drop at s)))
-along_open {s} {at} {end} {over} i t =
-    let o : field_ends (drop end s) ≡ false = sym i.tells ∙ t in
-    (field-inside s end o, omega (arith, i.rest, field_open s end o))
+  pub along_shut : field_ends (drop end s) ≡ true → end ≡ at + length (field (drop at s))
+  along_shut t = omega (arith, e, ap length (field_nil (drop end s) t))
 
-pub along_shut : {s : List ℕ} {at end : ℕ} {over : Bool} → Along s at end over → over ≡ true → end ≡ at + length (field (drop at s))
-along_shut {s} {at} {end} {over} i t = omega (arith, i.rest, ap length (field_nil (drop end s) (sym i.tells ∙ t)))
+  pub along_end : length s ≤ end → end ≡ at + length (field (drop at s))
+  along_end h = along_shut (ends_last s end h)
 
--- One turn over characters that are digits so far.
-module _ (f : List ℕ) (i b : ℕ) (e : all_digits (drop i f) ≡ all_digits f) (q : b ≡ get_or f i 0) (h : i < length f) where
-  pub digits_low : b < 48 → all_digits f ≡ false
-  digits_low l = sym e ∙ digits-next f i b q h ∙ rw (is_digit_low b l)
+-- Behind the end of a text a field is empty.
+pub field_past : (s : List ℕ) (at : ℕ) → length s ≤ at → length (field (drop at s)) ≡ 0
+field_past s at h = ap length (field_nil (drop at s) (ends_last s at h))
 
-  pub digits_high : 48 ≤ b → 57 < b → all_digits f ≡ false
-  digits_high k l = sym e ∙ digits-next f i b q h ∙ rw (is_digit_high b k l)
+pub end_so : (s : List ℕ) (at end m : ℕ) → end + length (field (drop end s)) ≡ at + length (field (drop at s)) → length s ≤ end → (at ≤ length s → end ≤ length s)
+    → m ≡ max at (length s) → m ≡ at + length (field (drop at s))
+end_so s at end m e h k q =
+    by_test (ltb (length s) at)
+    (λ t. omega (arith, q, field_past s at (omega (arith, ltb-true (length s) at t)), ltb-true (length s) at t))
+    (λ t. omega (arith, q, h, k (ltb-false (length s) at t), along_end s at end e h, ltb-false (length s) at t))
 
-  pub digits_on : 48 ≤ b → b ≤ 57 → all_digits (drop (i + 1) f) ≡ all_digits f
-  digits_on k l = sym (digits-next f i b q h ∙ rw (is_digit-within b k l)) ∙ e
+-- What `?` hands on is the refusal that it was given.
+pub handed_on : {x : Number} (r : Result Numeral Refusal) (why : Refusal) → IsErrAnd r (λ y. y ≡ why) → Refused (number why) ≡ x → given r ≡ x
+handed_on (Ok n) why h p = absurd h
+handed_on (Err y) why h p = ap (λ (z : Refusal). Refused (number z)) h ∙ p
+
+-- All that is left of a text from a place on.
+pub drop_all : (s : List ℕ) (i : ℕ) → take (length s - i) (drop i s) ≡ drop i s
+drop_all s i = ap (λ (n : ℕ). take n (drop i s)) (sym (length-drop i s)) ∙ take-length (drop i s)
+
+-- Digits, as the library tests them.
+ascii : (b : ℕ) → is_ascii_digit b ≡ is_digit b
+ascii b = by_test (leb 48 b) (λ e. rw e) (λ e. rw e)
+
+pub digits-all : (f : List ℕ) → list_all is_ascii_digit f ≡ all_digits f
+unfolding all_digits
+digits-all [] = refl
+digits-all (b ∷ f) = by_test (is_digit b) (λ e. rw (ascii b, e) (digits-all f)) (λ e. rw (ascii b, e))
 
 -- One turn over the digits of a value, and the last.
 module _ (f : List ℕ) (i v : ℕ) (e : value_from v (drop i f) ≡ value_from 0 f) where
-  pub value_over : (b : ℕ) → b ≡ get_or f i 0 → i < length f → 65535 < v * 10 + (b - 48) → at_most (value_from 0 f) ≡ 65536
-  value_over b q h l =
-      most-above (value_from 0 f) (omega (arith, e, value_next f i b v q h, value_grows (drop (i + 1) f) (v * 10 + (b - 48))))
+  pub value_over : (b : ℕ) → b ≡ get_or f i 0 → i < length f → 65535 < v * 10 + (b - 48) → 65535 < value_from 0 f
+  value_over b q h l = omega (arith, e, value_next f i b v q h, value_grows (drop (i + 1) f) (v * 10 + (b - 48)))
 
   pub value_on : (b : ℕ) → b ≡ get_or f i 0 → i < length f → value_from (v * 10 + (b - 48)) (drop (i + 1) f) ≡ value_from 0 f
   value_on b q h = sym (value_next f i b v q h) ∙ e
 
-  pub value_done : length f ≤ i → v ≤ 65535 → at_most (value_from 0 f) ≡ v
-  value_done h l = let q : value_from 0 f ≡ v = sym e ∙ value_end f i v h in rw q (most_below v l)
+  pub value_done : length f ≤ i → v ≡ value_from 0 f
+  value_done h = sym (value_end f i v h) ∙ e

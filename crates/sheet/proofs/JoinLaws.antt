@@ -12,29 +12,39 @@ use Rattle.basis.specs.Search.{found}
 use Rattle.basis.proofs.TestLaws.{by_test, either}
 use Rattle.flow.specs.Gap.{Triple, gap_told}
 use Rattle.table.specs.declared.Table.{Table}
-use Rattle.reader.specs.declared.Verdict.{Verdict}
-use Rattle.reader.specs.declared.Verdict.TheVariants.{Accepted, Refused as No}
-use Rattle.reader.specs.Reader.{Read, told, reading}
-use Rattle.reader.proofs.ReaderLaws.{told_injective}
+use Rattle.reader.specs.Reader.{Read, reading}
 use Rattle.codec.specs.Judging.{field_fault, fault, row_gap, wanted, place}
-use Rattle.sheet.specs.declared.Cutting.{Cutting}
 use Rattle.sheet.specs.Sheet.{placed, sheet_reading}
 use Rattle.sheet.specs.SheetJudging.{SheetJudgment}
-use Rattle.sheet.specs.Scan.{cut_numbers, cut_bytes, own, passed_by, objected_by, joined}
+use Rattle.sheet.specs.Scan.{Cutting, Verdict, Accepted, No, Intransitive, verdict_told, cut_numbers, cut_bytes, own, passed_by, objected_by, joined}
 use Rattle.sheet.proofs.SheetJudged.{row_gap_by}
 use Rattle.sheet.proofs.SheetReaderLaws.{sheet_refused}
 use Rattle.sheet.proofs.ByteVerdicts.{Passing, all_pass, one-missing}
 
+-- Verdicts that tell the same are the same.
+verdict_apart : (v w : Verdict) → verdict_told v ≡ verdict_told w → v ≡ w
+verdict_apart Accepted Accepted e = refl
+verdict_apart Accepted (No y q) e = let v = ap (λ (t : Told). t.values) e in let z : ◌≡◌ {A = ℕ} 0 1 = cc in absurd (omega arith)
+verdict_apart Accepted (Intransitive q x y z) e = let n = ap (λ (t : Told). t.number) e in absurd (omega arith)
+verdict_apart (No x p) Accepted e = let v = ap (λ (t : Told). t.values) e in let z : ◌≡◌ {A = ℕ} 0 1 = cc in absurd (omega arith)
+verdict_apart (No x p) (No y q) e =
+    let n = ap (λ (t : Told). t.number) e in
+    let v = ap (λ (t : Told). t.values) e in cc
+verdict_apart (No x p) (Intransitive q a b c) e = let v = ap (λ (t : Told). t.values) e in let z : ◌≡◌ {A = ℕ} 0 1 = cc in absurd (omega arith)
+verdict_apart (Intransitive p a b c) Accepted e = let n = ap (λ (t : Told). t.number) e in absurd (omega arith)
+verdict_apart (Intransitive p a b c) (No y q) e = let v = ap (λ (t : Told). t.values) e in let z : ◌≡◌ {A = ℕ} 0 1 = cc in absurd (omega arith)
+verdict_apart (Intransitive p a b c) (Intransitive q x y z) e = let v = ap (λ (t : Told). t.values) e in cc
+
 -- The cutting c of the text s comes to what the reader answers, with what the byte form says of its numbers.
 pub record Comes (s : List ℕ) (c : Cutting) : Type 0 where
-  pub same : (v : Verdict) (t : Table) → ◌≡◌ {A = Read} (record { told = told v; table = t }) (reading (cut_bytes c)) → joined s c (cut_bytes c) v t ≡ sheet_reading s
+  pub same : (v : Verdict) (t : Table) → ◌≡◌ {A = Read} (record { told = verdict_told v; table = t }) (reading (cut_bytes c)) → joined s c (cut_bytes c) v t ≡ sheet_reading s
 
 -- It does if it does for the verdict that the byte form has.
-pub comes_by : (s : List ℕ) (c : Cutting) (w : Verdict) → (reading (cut_bytes c)).told ≡ told w
+pub comes_by : (s : List ℕ) (c : Cutting) (w : Verdict) → (reading (cut_bytes c)).told ≡ verdict_told w
     → ((t : Table) → t ≡ (reading (cut_bytes c)).table → joined s c (cut_bytes c) w t ≡ sheet_reading s) → Comes s c
 comes_by s c w e h = record {
   same = λ v t f.
-      let q : v ≡ w = told_injective v w (ap (λ (r : Read). r.told) f ∙ e) in
+      let q : v ≡ w = verdict_apart v w (ap (λ (r : Read). r.told) f ∙ e) in
       subst (λ (x : Verdict). joined s c (cut_bytes c) x t ≡ sheet_reading s) (sym q) (h t (ap (λ (r : Read). r.table) f));
 }
 

@@ -16,8 +16,9 @@ pub mod SheetAccepted
 pub mod SheetWriterLaws
 pub mod SheetRoundTrip
 pub mod LongestText
-pub mod ScanSteps
 pub mod CutLaws
 pub mod CountSteps
+pub mod CodeCuts
 pub mod JoinLaws
 pub mod ScanReads
+pub mod CodeJoins

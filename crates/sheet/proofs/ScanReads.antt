@@ -18,18 +18,14 @@ use Rattle.table.specs.declared.Table.{Table}
 use Rattle.numeral.specs.Number.{encode_all}
 use Rattle.numeral.specs.Number.{Number}
 use Rattle.numeral.specs.Number.{Value, Refused}
-use Rattle.reader.specs.declared.Verdict.{Verdict}
-use Rattle.reader.specs.declared.Verdict.TheVariants.{Accepted, Refused as No, Intransitive}
-use Rattle.reader.specs.declared.Reading.{Reading}
-use Rattle.reader.specs.Reader.{read_of, Read, told, accepted, refused_at, gapped_at, reading}
+use Rattle.reader.specs.Reader.{Read, accepted, refused_at, gapped_at, reading}
 use Rattle.codec.specs.Judging.{fault, row_gap, objection, wanted, place}
 use Rattle.codec.proofs.JudgedSteps.{gap-objection}
-use Rattle.sheet.specs.declared.Cutting.{Cutting}
 use Rattle.sheet.specs.Field.{field_at}
 use Rattle.sheet.specs.Text.{line_over, text_part}
 use Rattle.sheet.specs.Sheet.{placed, end_fault, behind, most_numbers, table_by, sheet_reading}
 use Rattle.sheet.specs.SheetJudging.{SheetBefore, sheet_place, FieldValue, NoField, SheetJudgment, no_field, out_of_range, wrong_end, gap-found, extra}
-use Rattle.sheet.specs.Scan.{cut_numbers, number_cut, none_cut, field_cut, goes_on, turned, scanned, cut_bytes, numbers_in, ends_wrong, passed_by, start_of, objected_by, gapped_by, joined}
+use Rattle.sheet.specs.Scan.{Cutting, Verdict, Accepted, No, Intransitive, verdict_told, cut_numbers, number_cut, none_cut, field_cut, goes_on, turned, scanned, cut_bytes, numbers_in, ends_wrong, passed_by, start_of, objected_by, gapped_by, joined}
 use Rattle.sheet.proofs.FieldRuns.{field_back, end_stands}
 use Rattle.sheet.proofs.FieldRules.{field_value_exactly, no_field_exactly}
 use Rattle.sheet.proofs.EndLaws.{wrong_end_by}
@@ -285,17 +281,5 @@ all_comes (suc m) s vs g h =
 -- What the byte form says of the numbers that were cut, joined with the text's own fault, is what the reader of the comma form answers.
 pub scan_reads : (s : List ℕ) (v : Verdict) (t : Table) →
     let c = scanned s most_numbers in
-    ◌≡◌ {A = Read} (record { told = told v; table = t }) (reading (cut_bytes c)) → joined s c (cut_bytes c) v t ≡ sheet_reading s
+    ◌≡◌ {A = Read} (record { told = verdict_told v; table = t }) (reading (cut_bytes c)) → joined s c (cut_bytes c) v t ≡ sheet_reading s
 scan_reads s v t = (all_comes most_numbers s [] (good_nil s) (omega arith)).same v t
-
--- The same of what the code has in hand: a cutting, its bytes, what the byte form reads from them, and what that comes to.
-module _ (s : List ℕ) (c : Cutting) (bs : List ℕ) (p : (c ≡ scanned s most_numbers) × (bs ≡ cut_bytes c)) (r : Reading) (e : read_of r ≡ reading bs) where
-  pub judged_so : (v : Verdict) (x : Read) → r.verdict ≡ v → x ≡ joined s c bs v r.table → x ≡ sheet_reading s
-  judged_so v x f g =
-      let P : Cutting → List ℕ → Type 0 = λ d b.
-      ◌≡◌ {A = Read} (record { told = told v; table = r.table }) (reading b) → joined s d b v r.table ≡ sheet_reading s in
-      let all : P c (cut_bytes c) = subst (λ (d : Cutting). P d (cut_bytes d)) (sym p.0) (scan_reads s v r.table) in
-      g ∙ subst (P c) (sym p.1) all (subst (λ (w : Verdict). record { told = told w; table = r.table } ≡ reading bs) f e)
-
-  pub passed_so : (x : Read) → r.verdict ≡ Accepted → x ≡ passed_by s c (read_of r) → x ≡ sheet_reading s
-  passed_so x f g = judged_so Accepted x f (g ∙ ap (λ (w : Verdict). passed_by s c (record { told = told w; table = r.table })) f)

@@ -6,12 +6,13 @@ use mathlib.Core.List.{List, []}
 use mathlib.Core.Logic.{◌↔◌}
 use native.Mathlib.Omega.{arith}
 use borrow.Author.Tests.{eq-eqb, ne_eqb}
+use Rattle.std.specs.Prelude.{Result}
 use Rattle.basis.specs.Tests.{pick}
 use Rattle.basis.specs.Told.{Told, answered}
 use Rattle.table.specs.declared.Table.{Table}
-use Rattle.reader.specs.declared.Reading.{Reading}
+use Rattle.reader.specs.declared.Fault.{Fault}
 use Rattle.reader.specs.Reader.{Read, no_table, accepted, read_of}
-use Rattle.reader.proofs.ReaderLaws.{told_injective}
+use Rattle.reader.proofs.ReaderLaws.{read_injective}
 use Rattle.sheet.specs.Sheet.{table_by, judged_text, sheet_reading}
 use Rattle.sheet.specs.SheetJudging.{SheetJudgment, all_read}
 use Rattle.sheet.proofs.SheetJudged.{AllRead, sheet_judged, sheet_all_read}
@@ -57,9 +58,5 @@ sheet_accepted_plain s z =
     e ∙ ap accepted (ap (λ (r : Read). r.table) (sym e))
 
 -- No second answer fits the comma form's reader.
-pub sheet_read_unique : (s : List ℕ) (r q : Reading) → read_of r ≡ sheet_reading s → read_of q ≡ sheet_reading s → r ≡ q
-sheet_read_unique s r q e f =
-    let g : read_of r ≡ read_of q = e ∙ sym f in
-    let v : r.verdict ≡ q.verdict = told_injective _ _ (ap (λ (x : Read). x.told) g) in
-    let t : r.table ≡ q.table = ap (λ (x : Read). x.table) g in
-    λ i. record { verdict = v i; table = t i }
+pub sheet_read_unique : (s : List ℕ) (r q : Result Table Fault) → read_of r ≡ sheet_reading s → read_of q ≡ sheet_reading s → r ≡ q
+sheet_read_unique s r q e f = read_injective r q (e ∙ sym f)

@@ -8,16 +8,18 @@ use native.Mathlib.Omega.{arith}
 use lib.ListN.{length}
 use lib.Dec.{leb}
 use borrow.Author.Tests.{le-leb, lt-leb, leb-true, leb-false}
+use Rattle.std.specs.Prelude.{Result}
 use Rattle.basis.specs.Tests.{pick}
 use Rattle.basis.specs.Told.{Told, answered, refused}
 use Rattle.basis.proofs.TestLaws.{by_test}
+use Rattle.basis.specs.declared.refusal.Refusal.{Refusal}
+use Rattle.basis.proofs.RefusalLaws.{number-apart}
 use Rattle.basis.proofs.BackLaws.{exactly_by, row_here}
 use Rattle.table.specs.Legal.{legal}
 use Rattle.table.specs.declared.Table.{Table}
-use Rattle.writer.specs.declared.Writing.{Writing}
 use Rattle.writer.specs.Buffer.{Put}
 use Rattle.writer.specs.Writer.{told, Laid}
-use Rattle.writer.proofs.WriterLaws.{put-overlaid, overlaid_laid, told_injective}
+use Rattle.writer.proofs.WriterLaws.{put-overlaid, overlaid_laid}
 use Rattle.sheet.specs.Text.{text}
 use Rattle.sheet.specs.SheetWriter.{sheet_writing, sheet_written, SheetNumbered, not-legal, no_room, writes}
 
@@ -85,6 +87,6 @@ module _ (b : List ℕ) (at : ℕ) (t : Table) where
       (λ l. by_test (leb (at + length (text t)) (length b)) (λ m. let z : 0 < 0 = rw (l, m) at h in absurd (omega arith)) (λ m. rw (l, m))) (λ l. rw l)
 
   -- No second answer and no second final buffer fit `write`.
-  pub sheet_write_unique : (a a' : Writing) (c c' : List ℕ) →
+  pub sheet_write_unique : (a a' : Result ℕ Refusal) (c c' : List ℕ) →
       (told a ≡ sheet_writing b at t) × (c ≡ sheet_written b at t) → (told a' ≡ sheet_writing b at t) × (c' ≡ sheet_written b at t) → (a ≡ a') × (c ≡ c')
-  sheet_write_unique a a' c c' p q = (told_injective a a' (p.0 ∙ sym q.0), p.1 ∙ sym q.1)
+  sheet_write_unique a a' c c' p q = (number-apart a a' (p.0 ∙ sym q.0), p.1 ∙ sym q.1)

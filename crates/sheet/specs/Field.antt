@@ -55,10 +55,6 @@ field_number at left f = pick (or (eqb (length f) 0) (eqb (length f) left)) (Ref
 unfoldable pub field_at : List ℕ → ℕ → Number
 field_at s at = field_number at (length (drop at s)) (field (drop at s))
 
--- A value, or 65,536 for every one above 65,535.
-unfoldable pub at_most : ℕ → ℕ
-at_most v = pick (ltb 65535 v) 65536 v
-
 -- A number that was read ends before the text does.
 abbrev pub Inside : Number → ℕ → Type 0
 Inside (Value v e) n = e < n

@@ -1,20 +1,67 @@
 -- How the code reads the comma form: the text is cut into numbers, the byte form judges them all at once, and the first fault of the
 -- two in the order of judging is given. That this comes to `sheet_reading` is the law `scan_reads`.
-use Rattle.std.specs.Prelude.{ℕ, zero, suc, ◌+◌, List, [], ◌∷◌, Bool, true, false, not, length, set, take, replicate, eqb, ltb}
+use Rattle.std.specs.Prelude.{ℕ, zero, suc, ◌+◌, List, [], ◌∷◌, Bool, true, false, not, length, get_or, set, take, replicate, eqb, ltb, Option, None, Some, Err, ◌≡◌}
 use Rattle.basis.specs.Tests.{pick, and}
 use Rattle.numeral.specs.Number.{encode_all}
 use Rattle.numeral.specs.Number.{Number}
 use Rattle.numeral.specs.Number.{Value, Refused}
 use Rattle.flow.specs.Gap.{Triple}
 use Rattle.table.specs.declared.Table.{Table}
-use Rattle.reader.specs.declared.Verdict.{Verdict}
-use Rattle.reader.specs.declared.Verdict.TheVariants.{Accepted, Refused as No, Intransitive}
-use Rattle.reader.specs.Reader.{Read, accepted, refused_at, gapped_at}
+use Rattle.basis.specs.Told.{Told, answered}
+use Rattle.basis.specs.Refusals.{number, values}
+use Rattle.basis.specs.declared.refusal.Refusal.{Refusal}
+use Rattle.reader.specs.declared.Fault.{Fault}
+use Rattle.reader.specs.Reader.{Read, accepted, refused_at, gapped_at, read_of}
 use Rattle.codec.specs.Judging.{wanted}
-use Rattle.sheet.specs.declared.Cutting.{Cutting}
+use Rattle.sheet.specs.declared.Stop.{Stop}
+use Rattle.sheet.specs.declared.Stop.TheVariants.{NoNumber, WrongEnd}
+use Rattle.sheet.specs.declared.Cutting.{Cutting as TheCutting}
 use Rattle.sheet.specs.Field.{field_at}
 use Rattle.sheet.specs.Text.{line_over}
 use Rattle.sheet.specs.Sheet.{end_fault, behind, most_numbers}
+
+-- A text that is being cut into numbers: the fault met (0: none), the place of the last field that was none or of the last number's end,
+-- whether it is such an end, the start of the next field, and the numbers so far.
+pub record Cutting : Type 0 where
+  pub refusal : ℕ
+  pub place : ℕ
+  pub ended : Bool
+  pub next : ℕ
+  pub count : ℕ
+  pub numbers : List ℕ
+
+-- The number of what stopped the cutting, 0 where nothing did.
+abbrev pub stop_why : Option Stop → ℕ
+stop_why None = 0
+stop_why (Some (NoNumber why)) = number why
+stop_why (Some (WrongEnd f)) = number f.why
+
+-- The place of what stopped the cutting: a field that is none stands next.
+abbrev pub stop_place : ℕ → Option Stop → ℕ
+stop_place next None = 0
+stop_place next (Some (NoNumber why)) = next
+stop_place next (Some (WrongEnd f)) = f.place
+
+-- Whether a number's end stopped the cutting.
+abbrev pub stop_ended : Option Stop → Bool
+stop_ended None = false
+stop_ended (Some (NoNumber why)) = false
+stop_ended (Some (WrongEnd f)) = true
+
+-- What a cutting of the code is.
+abbrev pub cut_of : TheCutting → Cutting
+cut_of c = record { refusal = stop_why c.stop; place = stop_place c.next c.stop; ended = stop_ended c.stop; next = c.next; count = c.count; numbers = c.numbers }
+
+-- A cutting as far as it tells: the place of an end that is as due counts for nothing.
+abbrev pub told_cut : Cutting → Cutting
+told_cut c = record {
+  refusal = c.refusal;
+  place = pick (eqb c.refusal 0) 0 c.place;
+  ended = pick (eqb c.refusal 0) false c.ended;
+  next = c.next;
+  count = c.count;
+  numbers = c.numbers;
+}
 
 -- The numbers cut so far.
 abbrev pub cut_numbers : Cutting → List ℕ
@@ -55,9 +102,18 @@ unfoldable pub numbers_in : List ℕ → ℕ
 numbers_in [] = 0
 numbers_in (b ∷ bs) = pick (ltb b 128) 1 0 + numbers_in bs
 
+-- What a refusal of the code gives.
+abbrev pub fault_read : Fault → Read
+fault_read f = read_of (Err f)
+
 -- The text's own fault.
 abbrev pub own : Cutting → Read
 own c = refused_at c.refusal c.place
+
+-- A fault of the code is the text's own.
+pub record TellsOwn (c : Cutting) (f : Fault) : Type 0 where
+  pub why : number f.why ≡ c.refusal
+  pub place : f.place ≡ c.place
 
 -- The fault is the end of number k, the last one cut.
 unfoldable pub ends_wrong : Cutting → ℕ → Bool
@@ -82,6 +138,23 @@ objected_by s c bs why place = pick (eqb why 1) (own c) (refused_at why (start_o
 -- A gap: a wrong end behind its last row goes before it.
 unfoldable pub gapped_by : List ℕ → Cutting → List ℕ → ℕ → Triple → Read
 gapped_by s c bs place g = pick (ends_wrong c (numbers_in (take place bs))) (own c) (gapped_at (start_of s bs place) g)
+
+-- What the byte form says: it accepts, or refuses with a number at a place, or with 7 and the three domains.
+pub data Verdict : Type 0 where
+  Accepted : Verdict
+  No : ℕ → ℕ → Verdict
+  Intransitive : ℕ → ℕ → ℕ → ℕ → Verdict
+
+-- Document 01's number and values of a verdict.
+abbrev pub verdict_told : Verdict → Told
+verdict_told Accepted = answered []
+verdict_told (No why place) = record { number = why; values = place ∷ [] }
+verdict_told (Intransitive place a b c) = record { number = 7; values = place ∷ a ∷ b ∷ c ∷ [] }
+
+-- The verdict that a refusal of the code with its place is.
+abbrev pub verdict_by : ℕ → Refusal → Verdict
+verdict_by place why =
+    pick (eqb (number why) 7) (Intransitive place (get_or (values why) 0 0) (get_or (values why) 1 0) (get_or (values why) 2 0)) (No (number why) place)
 
 -- What a verdict of the byte form on the bytes bs comes to.
 abbrev pub joined : List ℕ → Cutting → List ℕ → Verdict → Table → Read

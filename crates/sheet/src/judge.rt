@@ -1,117 +1,112 @@
 // The numbers of a text are judged as the byte form judges them, and what is objected to gets its place in the text.
-ghost use Rattle.std.specs.Prelude.{◌≡◌, take};
-ghost use Rattle.reader.specs.Reader.{read_of};
+ghost use Rattle.std.specs.Prelude.{◌≡◌, ◌≢◌, ◌<◌, ◌≤◌, true, false, length, take, ltb, count_by, MatchOption};
+ghost use Rattle.basis.specs.Refusals.{number};
+ghost use Rattle.reader.specs.Reader.{read_of, accepted, no_table};
 ghost use Rattle.sheet.specs.Sheet.{most_numbers, sheet_reading};
-ghost use Rattle.sheet.specs.Scan.{scanned, numbers_in as count_in, own, ends_wrong as the-end-is-wrong, cut_bytes, passed_by, objected_by, gapped_by};
+ghost use Rattle.sheet.specs.Scan.{fault_read, verdict_by, cut_of, told_cut, scanned, TellsOwn, ends_wrong, cut_bytes, passed_by, joined};
 
-use super::Cutting;
 use super::scan::scan;
-use reader::{Reading, Verdict, refused_reading};
+use super::{Cutting, MOST, Stop};
+use basis::Refusal;
+use reader::Fault;
+use table::Table;
 use writer::write_numbers;
 
 // How many numbers end in the first n bytes.
 fn numbers_in(bytes: &[u8], n: usize) -> usize
-    ensures { result ≡ count_in (take n bytes.now) }
+    ensures { (result ≡ count_by (λ b. ltb b 128) (take n bytes.now)) × (result ≤ length bytes.now) }
 {
-    let mut k = 0;
-    for i in 0..bytes.len() {
-        if i < n {
-            if bytes[i] < 128 {
-                k += 1;
-            }
-        }
-    }
-    k
-}
-
-// Whether the fault is the end of number k, the last one cut.
-fn ends_wrong(cut: Cutting, k: usize) -> bool
-    ensures { result ≡ the-end-is-wrong cut k }
-{
-    if !cut.ended {
-        return false;
-    }
-    if cut.refusal == 0 {
-        return false;
-    }
-    if cut.count == 0 {
-        return false;
-    }
-    cut.count - 1 == k
+    bytes.iter().take(n).filter(|b| **b < 128).count()
 }
 
 // The text's own fault.
-fn own_fault(cut: Cutting) -> Reading
-    ensures { read_of result ≡ own cut }
+fn own_fault(cut: Cutting) -> Option<Fault>
+    ensures { MatchOption result ((cut_of cut).refusal ≡ 0) (λ f. TellsOwn (cut_of cut) f) }
 {
-    refused_reading(Verdict::Refused(cut.refusal, cut.place))
+    match cut.stop? {
+        Stop::NoNumber(why) => Some(Fault {
+            why,
+            place: cut.next,
+        }),
+        Stop::WrongEnd(fault) => Some(fault),
+    }
 }
 
 // All numbers pass: the text's own fault, text after the last line, or the table.
-#[tactic(auto, unfolding(crate::specs::Scan::passed_by, basis::specs::Tests::pick))]
-fn passed(s: &[u8], cut: Cutting, r: Reading) -> Reading
-    ensures { read_of result ≡ passed_by s.now cut (read_of r) }
+fn passed(s: &[u8], cut: Cutting, t: Table) -> Result<Table, Fault>
+    requires { (cut_of cut).refusal ≢ 7 }
+    ensures { read_of result ≡ passed_by s.now (cut_of cut) (accepted t) }
 {
-    if cut.refusal != 0 {
-        return own_fault(cut);
+    if let Some(fault) = own_fault(cut) {
+        return Err(fault);
     }
     if cut.next < s.len() {
-        return refused_reading(Verdict::Refused(10, cut.next));
+        return Err(Fault {
+            why: Refusal::Extra,
+            place: cut.next,
+        });
     }
-    r
+    Ok(t)
 }
 
-// A number is objected to: it is told with its place in the text. Where numbers are missing, it is the text's own fault.
-#[tactic(auto, unfolding(crate::specs::Scan::objected_by, basis::specs::Tests::pick, crate::specs::Scan::start_of))]
-fn objected(s: &[u8], cut: Cutting, bytes: &[u8], why: u8, place: usize) -> Reading
-    ensures { read_of result ≡ objected_by s.now cut bytes.now why place }
+// The wrong end of number k, the last one cut.
+fn wrong_end(cut: Cutting, k: usize) -> Option<Fault>
+    requires { k < 9223372036854775808 }
+    ensures { MatchOption result (ends_wrong (cut_of cut) k ≡ false) (λ f. (ends_wrong (cut_of cut) k ≡ true) × TellsOwn (cut_of cut) f) }
 {
-    if why == 1 {
-        return own_fault(cut);
+    if cut.count != k + 1 {
+        return None;
     }
-    let k = numbers_in(bytes, place);
-    let before = scan(s, k);
-    refused_reading(Verdict::Refused(why, before.next))
+    match cut.stop? {
+        Stop::NoNumber(_) => None,
+        Stop::WrongEnd(fault) => Some(fault),
+    }
 }
 
-// A gap: a wrong end behind its last row goes before it.
-#[tactic(auto, unfolding(crate::specs::Scan::gapped_by, basis::specs::Tests::pick, crate::specs::Scan::start_of))]
-fn gapped(s: &[u8], cut: Cutting, bytes: &[u8], place: usize, a: u8, b: u8, c: u8) -> Reading
-    ensures { read_of result ≡ gapped_by s.now cut bytes.now place (record { a = a; b = b; c = c }) }
+// What the byte form objects to, with its place in the text. The text's own fault goes before it where numbers are missing, and before a
+// gap where the last row's end is wrong.
+fn objected(s: &[u8], cut: Cutting, bytes: &[u8], fault: Fault) -> Fault
+    requires own { (cut_of cut).refusal ≢ 7 }
+    requires met { number fault.why ≡ 1 → (cut_of cut).refusal ≢ 0 }
+    ensures { fault_read result ≡ joined s.now (cut_of cut) bytes.now (verdict_by fault.place fault.why) no_table }
 {
-    let k = numbers_in(bytes, place);
-    if ends_wrong(cut, k) {
-        return own_fault(cut);
+    let k = numbers_in(bytes, fault.place);
+    match fault.why {
+        Refusal::EndsEarly => {
+            if let Some(own) = own_fault(cut) {
+                return own;
+            }
+        }
+        Refusal::Intransitive { a: _, b: _, c: _ } => {
+            if let Some(own) = wrong_end(cut, k) {
+                return own;
+            }
+        }
+        _ => {}
     }
-    let before = scan(s, k);
-    refused_reading(Verdict::Intransitive {
-        place: before.next,
-        a,
-        b,
-        c,
-    })
+    Fault {
+        why: fault.why,
+        place: scan(s, k).next,
+    }
 }
 
 // What the byte form says of the bytes of the cut numbers, joined with the text's own fault.
-fn judge_bytes(s: &[u8], cut: Cutting, bytes: &[u8]) -> Reading
-    requires { (cut ≡ scanned s.now most_numbers) × (bytes.now ≡ cut_bytes cut) }
+fn judge_bytes(s: &[u8], cut: Cutting, bytes: &[u8]) -> Result<Table, Fault>
+    requires { (cut_of cut ≡ told_cut (scanned s.now most_numbers)) × (bytes.now ≡ cut_bytes (cut_of cut)) }
     ensures { read_of result ≡ sheet_reading s.now }
 {
-    let r = codec::read(bytes);
-    let verdict = r.verdict;
-    match verdict {
-        Verdict::Accepted => passed(s, cut, r),
-        Verdict::Refused(why, place) => objected(s, cut, bytes, why, place),
-        Verdict::Intransitive { place, a, b, c } => gapped(s, cut, bytes, place, a, b, c),
+    match codec::read(bytes) {
+        Ok(t) => passed(s, cut, t),
+        Err(fault) => Err(objected(s, cut, bytes, fault)),
     }
 }
 
 // The bytes of the numbers that were cut, three at most for each, are judged.
-pub fn judge(s: &[u8], cut: Cutting) -> Reading
-    requires { cut ≡ scanned s.now most_numbers }
+pub fn judge(s: &[u8], cut: Cutting) -> Result<Table, Fault>
+    requires { cut_of cut ≡ told_cut (scanned s.now most_numbers) }
     ensures { read_of result ≡ sheet_reading s.now }
 {
-    let mut bytes = [0u8; 825];
+    let mut bytes = [0u8; 3 * MOST];
     let numbers = cut.numbers;
     let n = cut.count;
     let end = write_numbers(&mut bytes, 0, &numbers[..n]);

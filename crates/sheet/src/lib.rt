@@ -7,9 +7,9 @@ ghost use Rattle.writer.specs.Writer.{told};
 ghost use Rattle.sheet.specs.Sheet.{sheet_reading};
 ghost use Rattle.sheet.specs.SheetWriter.{sheet_writing, sheet_written};
 
-use reader::Reading;
+use basis::Refusal;
+use reader::Fault;
 use table::{Table, legal};
-use writer::Writing;
 
 mod field;
 mod judge;
@@ -26,42 +26,46 @@ use size::text_size;
 // No table has more numbers: three, 16 rows, and eight a thread.
 pub const MOST: usize = 275;
 
-// A text that is being cut into numbers: the fault met (0: none), the place of the last field that was none or of the last number's end,
-// whether it is such an end, the start of the next field, and the numbers so far.
-#[derive(Clone, Copy)]
+// What ends the cutting before all numbers are cut: at the next place stands no number, or the last number has a wrong end.
+#[derive(Clone, Copy, Debug, PartialEq, Eq)]
+pub enum Stop {
+    NoNumber(Refusal),
+    WrongEnd(Fault),
+}
+
+// A text that is being cut into numbers: what stopped it, the start of the next field, and the numbers so far.
+// The count stands beside the array, for memory is fixed here and no heap is used.
+#[derive(Clone, Copy, Debug, PartialEq, Eq)]
 pub struct Cutting {
-    pub refusal: u8,
-    pub place: usize,
-    pub ended: bool,
+    pub stop: Option<Stop>,
     pub next: usize,
     pub count: usize,
     pub numbers: [u16; MOST],
 }
 
-// A table from all of the text s, or the refusal with the zero table.
-pub fn read(s: &[u8]) -> Reading
+// A table from all of the text s, or why it is refused, and where.
+pub fn read(s: &[u8]) -> Result<Table, Fault>
     ensures { read_of result ≡ sheet_reading s.now }
 {
-    let c = scan(s, MOST);
-    judge(s, c)
+    judge(s, scan(s, MOST))
 }
 
 // The text of a legal table, written into buf from the place at on; the answer is the place after it.
 #[tactic(auto, unfolding(crate::specs::SheetWriter::sheet_writing, crate::specs::SheetWriter::sheet_written, basis::specs::Tests::pick))]
-pub fn write(t: Table, buf: &mut [u8], at: usize) -> Writing
+pub fn write(t: Table, buf: &mut [u8], at: usize) -> Result<usize, Refusal>
     ensures { (told result ≡ sheet_writing buf.old at t) × (buf.new ≡ sheet_written buf.old at t) }
 {
     if !legal(t) {
-        return Writing::NotLegal;
+        return Err(Refusal::NotLegal);
     }
     let size = text_size(t);
     let len = buf.len();
     if len < at {
-        return Writing::NoRoom;
+        return Err(Refusal::NoRoom);
     }
     if len - at < size {
-        return Writing::NoRoom;
+        return Err(Refusal::NoRoom);
     }
     let next = put_text(buf, at, t);
-    Writing::Written(next)
+    Ok(next)
 }

@@ -33,9 +33,8 @@ fn put_line(buf: &mut [u8], at: usize, vs: &[u16]) -> usize
     ensures { Put buf.old at buf.new result (line vs.now) }
 {
     let mut k = at;
-    let n = vs.len();
-    for i in 0..n {
-        k = put_field(buf, k, vs[i], i + 1 == n);
+    for (i, v) in vs.iter().enumerate() {
+        k = put_field(buf, k, *v, i + 1 == vs.len());
     }
     k
 }
@@ -44,8 +43,7 @@ fn put_rows(buf: &mut [u8], at: usize, rows: [u16; 16], n: u8) -> usize
     requires { (n ≤ 16) × Room buf.old at (line (row_numbers rows n)) }
     ensures { Put buf.old at buf.new result (line (row_numbers rows n)) }
 {
-    let count = n as usize;
-    put_line(buf, at, &rows[..count])
+    put_line(buf, at, &rows[..n as usize])
 }
 
 fn put_thread(buf: &mut [u8], at: usize, version: u8, th: Thread) -> usize
@@ -62,9 +60,8 @@ fn put_threads(buf: &mut [u8], at: usize, version: u8, threads: [Thread; 32], n:
     ensures { Put buf.old at buf.new result (thread_lines version threads n) }
 {
     let mut k = at;
-    for i in 0..n {
-        let th = threads[i as usize];
-        k = put_thread(buf, k, version, th);
+    for th in &threads[..n as usize] {
+        k = put_thread(buf, k, version, *th);
     }
     k
 }

@@ -32,9 +32,8 @@ fn line_size(vs: &[u16]) -> usize
     ensures { (result ≡ length (line vs.now)) × (result ≤ 7 * length vs.now) }
 {
     let mut k = 0;
-    let n = vs.len();
-    for i in 0..n {
-        k += field_size(vs[i], i + 1 == n);
+    for (i, v) in vs.iter().enumerate() {
+        k += field_size(*v, i + 1 == vs.len());
     }
     k
 }
@@ -43,8 +42,7 @@ fn rows_size(rows: [u16; 16], n: u8) -> usize
     requires { n ≤ 16 }
     ensures { (result ≡ length (line (row_numbers rows n))) × (result ≤ 112) }
 {
-    let count = n as usize;
-    line_size(&rows[..count])
+    line_size(&rows[..n as usize])
 }
 
 fn thread_size(version: u8, th: Thread) -> usize
@@ -61,9 +59,8 @@ fn threads_size(version: u8, threads: [Thread; 32], n: u8) -> usize
     ensures { (result ≡ length (thread_lines version threads n)) × (result ≤ 32 * 56) }
 {
     let mut k = 0;
-    for i in 0..n {
-        let th = threads[i as usize];
-        k += thread_size(version, th);
+    for th in &threads[..n as usize] {
+        k += thread_size(version, *th);
     }
     k
 }

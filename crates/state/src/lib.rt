@@ -27,6 +27,9 @@ pub struct Progress {
     pub since: u16,
 }
 
+// The last clock: no step is made from it on.
+pub const LAST_CLOCK: u32 = 1000000000;
+
 // Steps done, and the progress of each thread.
 #[derive(Clone, Copy, Debug, PartialEq, Eq)]
 pub struct State {

@@ -61,33 +61,33 @@ fn by_clock(th: Thread, clock: u32, p: Progress) -> Progress
 fn is_due(th: Thread, event: bool, p: Progress) -> bool
     ensures { result ≡ and event (leb th.period p.since) }
 {
-    if !event {
-        return false;
-    }
-    th.period <= p.since
+    event && th.period <= p.since
 }
 
 // What an event thread's progress is after the release, with an event or without.
+#[tactic(auto, unfolding(crate::specs::Release::by_event, basis::specs::Tests::pick))]
 fn by_event(th: Thread, event: bool, p: Progress) -> Progress
     ensures { result ≡ by_event th event p }
 {
     if is_due(th, event, p) {
-        return refilled(th, p);
+        refilled(th, p)
+    } else if th.deadline <= p.since {
+        cut(p)
+    } else {
+        p
     }
-    if th.deadline <= p.since {
-        return cut(p);
-    }
-    p
 }
 
+#[tactic(auto, unfolding(crate::specs::Release::released, basis::specs::Tests::pick))]
 fn released(th: Thread, clock: u32, event: bool, p: Progress) -> Progress
     requires { 0 < th.period }
     ensures { result ≡ released th clock event p }
 {
     if th.kind == 1 {
-        return by_event(th, event, p);
+        by_event(th, event, p)
+    } else {
+        by_clock(th, clock, p)
     }
-    by_clock(th, clock, p)
 }
 
 impl State {

@@ -4,7 +4,7 @@ ghost use Rattle.basis.specs.Tests.{pick, and, every};
 ghost use Rattle.table.specs.Legal.{row_legal, thread_ok, thread_zero, taken, place_legal, legal};
 
 use super::ranges::{field_ranges, fields, in_range};
-use super::{FIELDS, Range, Table, Thread};
+use super::{DOMAIN_COUNTS, FIELDS, THREAD_COUNTS, Table, Thread, VERSIONS};
 use flow::{first_gap, row_passes};
 
 // Whether one of the first n threads has the priority p.
@@ -27,8 +27,7 @@ fn thread_passes(version: u8, domains: u8, th: Thread) -> bool
     let vs = fields(th);
     let ranges = field_ranges(version, domains, th.period, th.offset, th.budget);
     for k in 0..FIELDS {
-        let range = ranges[k];
-        if !in_range(range, vs[k]) {
+        if !in_range(ranges[k], vs[k]) {
             return false;
         }
     }
@@ -47,15 +46,17 @@ fn thread_is_zero(th: Thread) -> bool
     true
 }
 
+#[tactic(auto, unfolding(crate::specs::Legal::row_legal, basis::specs::Tests::pick))]
 fn row_is_legal(rows: [u16; 16], domains: u8, i: u8) -> bool
     requires { i < 16 }
     ensures { result ≡ row_legal rows domains i }
 {
     let v = rows[i as usize];
     if i < domains {
-        return row_passes(domains, i, v);
+        row_passes(domains, i, v)
+    } else {
+        v == 0
     }
-    v == 0
 }
 
 fn rows_are_legal(rows: [u16; 16], domains: u8) -> bool
@@ -70,16 +71,15 @@ fn rows_are_legal(rows: [u16; 16], domains: u8) -> bool
 }
 
 // Whether what stands in a place is legal: a thread in range with a priority not taken, or zero where no thread is.
+#[tactic(auto, unfolding(basis::specs::Tests::pick))]
 fn place_is_legal(th: Thread, version: u8, domains: u8, used: bool, taken: bool) -> bool
     ensures { result ≡ pick used (and (thread_ok version domains th) (not taken)) (thread_zero th) }
 {
     if used {
-        if thread_passes(version, domains, th) {
-            return !taken;
-        }
-        return false;
+        thread_passes(version, domains, th) && !taken
+    } else {
+        thread_is_zero(th)
     }
-    thread_is_zero(th)
 }
 
 // The priorities that stand in earlier places are kept, so that none is searched for.
@@ -98,25 +98,14 @@ fn places_are_legal(t: Table) -> bool
     true
 }
 
+#[tactic(auto, unfolding(crate::specs::Legal::legal))]
 pub fn table_passes(t: Table) -> bool
     ensures { result ≡ legal t }
 {
-    if !in_range(Range { low: 1, below: 3 }, t.version as u16) {
-        return false;
-    }
-    let domains = t.domains;
-    if !in_range(Range { low: 1, below: 17 }, domains as u16) {
-        return false;
-    }
-    if !in_range(Range { low: 1, below: 33 }, t.count as u16) {
-        return false;
-    }
-    let rows = t.rows;
-    if !rows_are_legal(rows, domains) {
-        return false;
-    }
-    if first_gap(rows, domains).is_some() {
-        return false;
-    }
-    places_are_legal(t)
+    in_range(VERSIONS, u16::from(t.version))
+        && in_range(DOMAIN_COUNTS, u16::from(t.domains))
+        && in_range(THREAD_COUNTS, u16::from(t.count))
+        && rows_are_legal(t.rows, t.domains)
+        && first_gap(t.rows, t.domains).is_none()
+        && places_are_legal(t)
 }

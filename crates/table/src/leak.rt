@@ -10,10 +10,7 @@ use flow::{bit, row};
 fn hides(row: u16, a: Thread, b: Thread) -> bool
     ensures { result ≡ and (ltb b.priority a.priority) (not (eqb (row / 2 ^ b.domain % 2) 1)) }
 {
-    if a.priority <= b.priority {
-        return false;
-    }
-    !bit(row, b.domain)
+    b.priority < a.priority && !bit(row, b.domain)
 }
 
 // The mark of thread i, with the first thread that needs it.
@@ -24,13 +21,7 @@ fn mark_of(t: Table, i: u8) -> Mark
     let a = t.threads[i as usize];
     let rows = t.rows;
     let flow = row(rows, a.domain);
-    for j in 0..t.count {
-        let b = t.threads[j as usize];
-        if hides(flow, a, b) {
-            return Some(j);
-        }
-    }
-    None
+    (0..t.count).find(|j| hides(flow, a, t.threads[*j as usize]))
 }
 
 // The mark of each thread of a table that is known to be legal.

@@ -47,6 +47,13 @@ pub struct Range {
     pub below: u32,
 }
 
+// How many versions, domains and threads there may be.
+pub const VERSIONS: Range = Range { low: 1, below: 3 };
+
+pub const DOMAIN_COUNTS: Range = Range { low: 1, below: 17 };
+
+pub const THREAD_COUNTS: Range = Range { low: 1, below: 33 };
+
 // A leak mark: the first thread that it protects, where there is one.
 pub type Mark = Option<u8>;
 

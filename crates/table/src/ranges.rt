@@ -5,13 +5,11 @@ ghost use Rattle.table.specs.Ranges.{within, kinds, field_range, field_ranges};
 
 use super::{FIELDS, Range, Thread};
 
+#[tactic(auto, unfolding(crate::specs::Ranges::within))]
 pub fn in_range(r: Range, v: u16) -> bool
     ensures { result ≡ within r v }
 {
-    if r.low <= v {
-        return (v as u32) < r.below;
-    }
-    false
+    r.low <= v && u32::from(v) < r.below
 }
 
 // A thread's fields, in order.
@@ -31,13 +29,11 @@ pub fn fields(th: Thread) -> [u16; FIELDS]
 }
 
 // How many fields of a thread stand in the bytes of a version.
+#[tactic(auto, unfolding(crate::specs::Threads::fields_in, basis::specs::Tests::pick))]
 pub fn fields_in(version: u8) -> u8
     ensures { result ≡ fields_in version }
 {
-    if version == 1 {
-        return 7;
-    }
-    8
+    if version == 1 { 7 } else { 8 }
 }
 
 // The thread that has these fields.
@@ -69,13 +65,7 @@ pub fn no_thread() -> Thread
 fn kinds_of(version: u8, offset: u16) -> u32
     ensures { result ≡ kinds version offset }
 {
-    if version != 2 {
-        return 1;
-    }
-    if offset != 0 {
-        return 1;
-    }
-    2
+    if version == 2 && offset == 0 { 2 } else { 1 }
 }
 
 // The range of each field in a table of this version and so many domains, by the thread's period, offset and budget.
@@ -124,12 +114,13 @@ pub fn field_ranges(
 }
 
 // The range of field k in a table of this version and so many domains, by the fields before it.
+#[tactic(auto, unfolding(crate::specs::Ranges::field_range))]
 pub fn field_range(version: u8, domains: u8, fields: [u16; FIELDS], k: u8) -> Range
     ensures { result ≡ field_range version domains fields k }
 {
     let ranges = field_ranges(version, domains, fields[2], fields[3], fields[4]);
-    if (k as usize) < FIELDS {
-        return ranges[k as usize];
-    }
-    Range { low: 0, below: 0 }
+    ranges
+        .get(k as usize)
+        .copied()
+        .unwrap_or(Range { low: 0, below: 0 })
 }

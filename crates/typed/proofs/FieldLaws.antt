@@ -10,8 +10,7 @@ use borrow.Author.Tests.{eq-eqb, ne_eqb, leb-true}
 use Rattle.basis.specs.Tests.{pick}
 use Rattle.basis.proofs.TestLaws.{and_both}
 use Rattle.basis.proofs.ListLaws.{drop-some}
-use Rattle.typed.specs.Fields.{is_digit, fed, read_on}
-use Rattle.typed.specs.declared.Field.{Field}
+use Rattle.typed.specs.Fields.{Field, is_digit, fed, read_on}
 
 -- A choice by a test whose answer is known.
 pub pick_first : {A : Type 0} {b : Bool} (x y : A) → b ≡ true → pick b x y ≡ x

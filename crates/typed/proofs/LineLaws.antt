@@ -10,12 +10,10 @@ use borrow.Author.Tests.{ltb-false}
 use Rattle.basis.specs.Tests.{pick, or}
 use Rattle.basis.proofs.TestLaws.{by_test}
 use Rattle.basis.proofs.ListLaws.{drop-some}
+use Rattle.typed.specs.Fields.{Field}
 use Rattle.typed.specs.Numbers.{is_plain}
-use Rattle.typed.specs.RowLine.{padded, fault, rows_fed, rows_read}
-use Rattle.typed.specs.FrameLines.{windows_fed, windows_read}
-use Rattle.typed.specs.declared.Field.{Field}
-use Rattle.typed.specs.declared.Rows.{Rows}
-use Rattle.typed.specs.declared.Windows.{Windows}
+use Rattle.typed.specs.RowLine.{Rows, padded, fault, rows_fed, rows_read}
+use Rattle.typed.specs.FrameLines.{Windows, windows_fed, windows_read}
 
 -- A field without a fault is no more than 65,535.
 pub fault_none : (f : Field) → fault f ≡ 0 → f.value ≤ 65535

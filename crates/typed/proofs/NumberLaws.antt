@@ -4,9 +4,8 @@ use mathlib.Core.Path.{◌≡◌, refl, sym, ap}
 use mathlib.Core.List.{List}
 use lib.ListN.{length, get_or, drop, drop_of_length-le}
 use Rattle.basis.proofs.ListLaws.{drop-some}
-use Rattle.typed.specs.Fields.{taken}
+use Rattle.typed.specs.Fields.{Field, taken}
 use Rattle.typed.specs.Numbers.{spelt}
-use Rattle.typed.specs.declared.Field.{Field}
 
 module _ (f : Field) (s : List ℕ) (i : ℕ) where
   pub spelt_next : {g : Field} → g ≡ taken f (get_or s i 0) → i < length s → spelt f (drop i s) ≡ spelt g (drop (i + 1) s)

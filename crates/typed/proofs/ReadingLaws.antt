@@ -9,10 +9,8 @@ use lib.Dec.{eqb, ltb}
 use borrow.Author.Tests.{eqb-true, eqb-false, ltb-true, ltb-false, lt-ltb, le-ltb, ne_eqb}
 use Rattle.basis.specs.Tests.{pick, and, or}
 use Rattle.basis.proofs.TestLaws.{by_test, both_ways, and_both, and-of, and-false, or-true}
-use Rattle.typed.specs.Fields.{most, is_digit, grown, is_strange, blank, taken}
-use Rattle.typed.specs.Numbers.{is_plain, spelt, plain, argument, all_digits, value_from, argument_read}
-use Rattle.typed.specs.declared.Field.{Field}
-use Rattle.typed.specs.declared.Argument.TheVariants.{Number, NoNumber}
+use Rattle.typed.specs.Fields.{Field, most, is_digit, grown, is_strange, blank, taken}
+use Rattle.typed.specs.Numbers.{Number, NoNumber, is_plain, spelt, plain, argument, all_digits, value_from, argument_read}
 use Rattle.typed.proofs.FieldLaws.{pick_first, pick_second, digit_low, digit_small}
 
 -- The value grows as the digits' own, and stays at the largest that is told.

@@ -1,8 +1,60 @@
 -- A field that a person types: its characters one after the other, up to a comma, an LF or a CRLF. A CR without LF is a character of it.
-use Rattle.std.specs.Prelude.{ℕ, ◌+◌, ◌-◌, ◌*◌, List, [], ◌∷◌, Bool, true, false, not, eqb, ltb, leb}
+use Rattle.std.specs.Prelude.{ℕ, ◌+◌, ◌-◌, ◌*◌, List, [], ◌∷◌, Bool, true, false, not, eqb, ltb, leb, Option, None, Some}
 use Rattle.basis.specs.Tests.{pick, and, or}
-use Rattle.typed.specs.declared.Field.{Field}
-use Rattle.typed.specs.declared.Reading.{Reading}
+use Rattle.typed.specs.declared.End.{End}
+use Rattle.typed.specs.declared.End.TheVariants.{Comma, Line}
+use Rattle.typed.specs.declared.Size.{Size}
+use Rattle.typed.specs.declared.Size.TheVariants.{Empty, One, More}
+use Rattle.typed.specs.declared.Field.{Field as TheField}
+use Rattle.typed.specs.declared.Reading.{Reading as TheReading}
+
+-- A field so far: the places of its first character and of the next one, how many characters it has (2 for more than one), its first
+-- character, the value of its digits, whether one is no part of a number, whether a CR stands last that may end the line, and what
+-- ended it (0 nothing yet, 1 a comma, 2 a line's end).
+pub record Field : Type 0 where
+  pub start : ℕ
+  pub at : ℕ
+  pub size : ℕ
+  pub first : ℕ
+  pub value : ℕ
+  pub strange : Bool
+  pub cr : Bool
+  pub ended : ℕ
+
+-- A field after a part of a text, and the place in that part behind its last character read.
+pub record Reading : Type 0 where
+  pub field : Field
+  pub next : ℕ
+
+-- What ends a field, as a number.
+abbrev pub end_of : End → ℕ
+end_of Comma = 1
+end_of Line = 2
+
+-- What ended a field, if anything did.
+abbrev pub ended_of : Option End → ℕ
+ended_of None = 0
+ended_of (Some e) = end_of e
+
+-- How many characters a field has.
+abbrev pub size_of : Size → ℕ
+size_of Empty = 0
+size_of (One b) = 1
+size_of (More b) = 2
+
+-- A field's first character, 0 where it has none.
+abbrev pub first_of : Size → ℕ
+first_of Empty = 0
+first_of (One b) = b
+first_of (More b) = b
+
+-- What a field of the code is.
+abbrev pub field_of : TheField → Field
+field_of f = record { start = f.start; at = f.at; size = size_of f.size; first = first_of f.size; value = f.value; strange = f.strange; cr = f.cr; ended = ended_of f.ended }
+
+-- What the code has read of a part.
+abbrev pub reading_of : TheReading → Reading
+reading_of r = record { field = field_of r.field; next = r.next }
 
 -- Places and values are told up to this; it stands for all that is larger.
 abbrev pub most : ℕ

@@ -1,14 +1,36 @@
 -- The lines of a frame, each a domain, a comma and a length, with an LF or a CRLF behind it; the last may lack its end. Numbers that are
 -- too large are told as the largest that fit, which no frame may have.
-use Rattle.std.specs.Prelude.{ℕ, ◌+◌, min, List, [], ◌∷◌, Bool, true, false, set, replicate, eqb, ltb}
+use Rattle.std.specs.Prelude.{ℕ, ◌+◌, min, List, [], ◌∷◌, Bool, true, false, set, replicate, eqb, ltb, Option, None, Some}
 use Rattle.basis.specs.Tests.{pick, and}
 use Rattle.frame.specs.Frame.{no_window}
 use Rattle.frame.specs.declared.Frame.{Frame}
 use Rattle.frame.specs.declared.Window.{Window}
-use Rattle.typed.specs.Fields.{text_start, fed, closed}
+use Rattle.typed.specs.Fields.{Field, field_of, text_start, fed, closed}
 use Rattle.typed.specs.Numbers.{is_plain}
-use Rattle.typed.specs.declared.Field.{Field}
-use Rattle.typed.specs.declared.Windows.{Windows}
+use Rattle.typed.specs.declared.Windows.{Windows as TheWindows}
+
+-- The lines of a frame so far: the domain of a line that is half read, whether some line is not two numbers, and the windows (65 counts
+-- for more than 64).
+pub record Windows : Type 0 where
+  pub field : Field
+  pub domain : ℕ
+  pub second : Bool
+  pub bad : Bool
+  pub frame : Frame
+
+-- The domain of a line that is half read, 0 where there is none.
+abbrev pub domain_of : Option ℕ → ℕ
+domain_of None = 0
+domain_of (Some d) = d
+
+-- Whether a line is half read.
+abbrev pub second_of : Option ℕ → Bool
+second_of None = false
+second_of (Some d) = true
+
+-- What the lines of the code are.
+abbrev pub windows_of : TheWindows → Windows
+windows_of w = record { field = field_of w.field; domain = domain_of w.domain; second = second_of w.domain; bad = w.bad; frame = w.frame }
 
 abbrev pub no_windows : Windows
 no_windows = record { field = text_start; domain = 0; second = false; bad = false; frame = record { count = 0; windows = replicate 64 no_window } }

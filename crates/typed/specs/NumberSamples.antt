@@ -1,10 +1,8 @@
 -- Commands and words by hand, character for character.
 use Rattle.std.specs.Prelude.{ℕ, ◌≡◌, refl, List, [], ◌∷◌, map, true, replicate, ℤ, pos, neg_ℤ}
 use Rattle.typed.specs.Fields.{text_start, closed, read_on}
-use Rattle.typed.specs.Numbers.{command, argument, signed_word, not_signed}
+use Rattle.typed.specs.Numbers.{Signed, Number, NoNumber, command, argument, signed_word, not_signed}
 use Rattle.typed.specs.Opened.{opened}
-use Rattle.typed.specs.declared.Signed.{Signed}
-use Rattle.typed.specs.declared.Argument.TheVariants.{Number, NoNumber}
 
 -- The command of a text's first line, and where in the text the next one starts.
 abbrev first : List ℕ → Signed

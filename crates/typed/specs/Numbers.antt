@@ -1,11 +1,22 @@
 -- The number that a field or a word is. Zeros in front are allowed here; a line of rows has none.
-use Rattle.std.specs.Prelude.{ℕ, ◌+◌, ◌-◌, ◌*◌, min, List, [], ◌∷◌, Bool, true, false, not, eqb, ltb, ℤ, pos, neg_ℤ}
+use Rattle.std.specs.Prelude.{ℕ, ◌+◌, ◌-◌, ◌*◌, min, List, [], ◌∷◌, Bool, true, false, not, eqb, ltb, ℤ, pos, neg_ℤ, Option, None, Some}
 use Rattle.basis.specs.Tests.{pick, and}
-use Rattle.typed.specs.Fields.{most, is_digit, blank, taken}
-use Rattle.typed.specs.declared.Field.{Field}
-use Rattle.typed.specs.declared.Signed.{Signed}
-use Rattle.typed.specs.declared.Argument.{Argument}
-use Rattle.typed.specs.declared.Argument.TheVariants.{Number, NoNumber}
+use Rattle.typed.specs.Fields.{Field, most, is_digit, blank, taken}
+
+-- A word as a number.
+pub data Argument : Type 0 where
+  Number : ℕ → Argument
+  NoNumber : Argument
+
+-- A number with a sign, from -1,000,000 to 1,000,000; 0 where it is none.
+pub record Signed : Type 0 where
+  pub number : Bool
+  pub value : ℤ
+
+-- What the code gives for a word.
+abbrev pub argument_of : Option ℕ → Argument
+argument_of None = NoNumber
+argument_of (Some n) = Number n
 
 -- A minus sign stands first.
 abbrev pub minus : Field → Bool
@@ -25,6 +36,11 @@ signed_value f = pick (minus f) (neg_ℤ (pos (min f.value 1000000))) (pos (min 
 
 abbrev pub not_signed : Signed
 not_signed = record { number = false; value = pos 0 }
+
+-- What the code gives for a number with a sign.
+abbrev pub signed_of : Option ℤ → Signed
+signed_of None = not_signed
+signed_of (Some z) = record { number = true; value = z }
 
 unfoldable pub signed : Field → Signed
 signed f = pick (is_signed f) (record { number = true; value = signed_value f }) not_signed

@@ -1,10 +1,37 @@
 -- One line of rows in the comma form's way, its end a CRLF or an LF: its own faults are 1, 2, 3 and 10, and the leftmost is told with its place.
-use Rattle.std.specs.Prelude.{ℕ, ◌+◌, List, [], ◌∷◌, Bool, false, not, set, replicate, eqb, ltb}
+use Rattle.std.specs.Prelude.{ℕ, ◌+◌, List, [], ◌∷◌, Bool, false, not, set, replicate, eqb, ltb, ◌≡◌, Option, None, Some, Result, Ok, Err}
 use Rattle.basis.specs.Tests.{pick, and, or}
-use Rattle.typed.specs.Fields.{text_start, fed}
+use Rattle.basis.specs.Refusals.{number}
+use Rattle.basis.specs.declared.refusal.Refusal.{Refusal}
+use Rattle.typed.specs.Fields.{Field, field_of, text_start, fed}
 use Rattle.typed.specs.Numbers.{is_plain}
-use Rattle.typed.specs.declared.Field.{Field}
-use Rattle.typed.specs.declared.Rows.{Rows}
+use Rattle.typed.specs.declared.Fault.{Fault}
+use Rattle.typed.specs.declared.Rows.{Rows as TheRows}
+
+-- A line of rows so far: its values (17 counts for more than 16), the place of each, whether the line is over, and the first fault
+-- (0 none) with its place.
+pub record Rows : Type 0 where
+  pub field : Field
+  pub count : ℕ
+  pub rows : List ℕ
+  pub starts : List ℕ
+  pub done : Bool
+  pub why : ℕ
+  pub place : ℕ
+
+-- The number of a fault, 0 where there is none.
+abbrev pub why_of : Option Fault → ℕ
+why_of None = 0
+why_of (Some f) = number f.why
+
+-- The place of a fault, 0 where there is none.
+abbrev pub place_of : Option Fault → ℕ
+place_of None = 0
+place_of (Some f) = f.place
+
+-- What a line of rows of the code is.
+abbrev pub rows_of : TheRows → Rows
+rows_of r = record { field = field_of r.field; count = r.count; rows = r.rows; starts = r.starts; done = r.done; why = why_of r.fault; place = place_of r.fault }
 
 -- A zero before another character.
 unfoldable pub padded : Field → Bool
@@ -16,6 +43,11 @@ fault f = pick (eqb f.size 0) 1 (pick (or (padded f) (not (is_plain f))) 2 (pick
 
 abbrev pub no_rows : Rows
 no_rows = record { field = text_start; count = 0; rows = replicate 16 0; starts = replicate 17 0; done = false; why = 0; place = 0 }
+
+-- What the code gives for a field that ended: its value, or why it is refused.
+abbrev pub row_given : Result ℕ Refusal → Field → Type 0
+row_given (Ok v) f = (fault f ≡ 0) × (v ≡ f.value)
+row_given (Err why) f = fault f ≡ number why
 
 -- A fault, with its place.
 unfoldable pub refused_at : ℕ → ℕ → Rows → Rows

@@ -1,189 +1,134 @@
 // The lines of a frame: each a domain and a length.
-ghost use Rattle.std.specs.Prelude.{◌≡◌, set};
-ghost use Rattle.typed.specs.FrameLines.{no_windows, as_due, counted_windows, added, due as the-due, with_domain, with_window, spoilt, window_taken, window_character, windows_fed, windows_read, windows_closed};
+ghost use Rattle.std.specs.Prelude.{◌≡◌, Some};
+ghost use Rattle.typed.specs.Fields.{field_of};
+ghost use Rattle.typed.specs.FrameLines.{windows_of, no_windows, added, with_domain, with_window, spoilt, window_taken, window_character, windows_fed, windows_read, windows_closed};
 
-use super::characters::{close, feed, new_text};
-use super::numbers::{is_plain, smaller};
-use super::{Field, Windows};
+use super::characters::{close, ends_line, feed, new_text};
+use super::lists::{one_more, stored};
+use super::numbers::is_plain;
+use super::{End, Field, Windows};
 use frame::{Frame, Window};
 
 // The start of the text.
 pub fn new_windows() -> Windows
-    ensures { result ≡ no_windows }
+    ensures { windows_of result ≡ no_windows }
 {
     let none = Window {
         domain: 0,
         length: 0,
     };
-    let frame = Frame {
-        count: 0,
-        windows: [none; 64],
-    };
-    let field = new_text();
     Windows {
-        field,
-        domain: 0,
-        second: false,
+        field: new_text(),
+        domain: None,
         bad: false,
-        frame,
+        frame: Frame {
+            count: 0,
+            windows: [none; 64],
+        },
     }
 }
 
-// What must end the next field: a comma behind a domain, the line's end behind a length.
-#[tactic(auto, unfolding(crate::specs::FrameLines::due, basis::specs::Tests::pick))]
-fn due(second: bool) -> u8
-    ensures { result ≡ the-due second }
-{
-    if second {
-        return 2;
-    }
-    1
-}
-
-// Whether an ended field is a number and ended as is due.
-#[tactic(auto, unfolding(crate::specs::FrameLines::as_due))]
-fn is_due(w: Windows, f: Field) -> bool
-    ensures { result ≡ as_due w f }
-{
-    if !is_plain(f) {
-        return false;
-    }
-    f.ended == due(w.second)
-}
-
-#[tactic(auto, unfolding(crate::specs::FrameLines::counted_windows, basis::specs::Tests::pick))]
-fn one_more(n: u8) -> u8
-    ensures { result ≡ counted_windows n }
-{
-    if n < 65 {
-        return n + 1;
-    }
-    n
-}
-
-// A window stored; behind the last place none is.
-fn store(mut windows: [Window; 64], n: u8, w: Window) -> [Window; 64]
-    ensures { result ≡ set windows n w }
-{
-    if n < 64 {
-        windows[n as usize] = w;
-        return windows;
-    }
-    windows
-}
-
-#[tactic(auto, unfolding(crate::specs::FrameLines::added))]
+// A window more; behind the last place none is stored.
+#[tactic(auto, unfolding(crate::specs::FrameLines::added, crate::specs::FrameLines::counted_windows))]
 fn add(f: Frame, w: Window) -> Frame
     ensures { result ≡ added f w }
 {
-    let windows = f.windows;
     Frame {
-        count: one_more(f.count),
-        windows: store(windows, f.count, w),
+        count: one_more(f.count, 65),
+        windows: stored(f.windows, f.count, w),
     }
 }
 
 #[tactic(auto, unfolding(crate::specs::FrameLines::with_domain))]
 fn take_domain(w: Windows, f: Field) -> Windows
-    ensures { result ≡ with_domain w f }
+    ensures { windows_of result ≡ with_domain (windows_of w) (field_of f) }
 {
-    let frame = w.frame;
     Windows {
         field: f,
-        domain: smaller(f.value, 255) as u8,
-        second: true,
-        bad: w.bad,
-        frame,
+        domain: Some(f.value.min(255) as u8),
+        ..w
     }
 }
 
 #[tactic(auto, unfolding(crate::specs::FrameLines::with_window, crate::specs::FrameLines::window_of))]
-fn take_length(w: Windows, f: Field) -> Windows
-    ensures { result ≡ with_window w f }
+fn take_length(w: Windows, domain: u8, f: Field) -> Windows
+    requires { w.domain ≡ Some domain }
+    ensures { windows_of result ≡ with_window (windows_of w) (field_of f) }
 {
     let window = Window {
-        domain: w.domain,
-        length: smaller(f.value, 65535) as u16,
+        domain,
+        length: f.value.min(65535) as u16,
     };
-    let frame = w.frame;
     Windows {
         field: f,
-        domain: 0,
-        second: false,
-        bad: w.bad,
-        frame: add(frame, window),
+        domain: None,
+        frame: add(w.frame, window),
+        ..w
     }
 }
 
 #[tactic(auto, unfolding(crate::specs::FrameLines::spoilt))]
-fn spoil(mut w: Windows) -> Windows
-    ensures { result ≡ spoilt w }
+fn spoil(w: Windows) -> Windows
+    ensures { windows_of result ≡ spoilt (windows_of w) }
 {
-    w.bad = true;
-    w
+    Windows { bad: true, ..w }
 }
 
-// A field that has ended.
-#[tactic(auto, unfolding(crate::specs::FrameLines::window_taken, basis::specs::Tests::pick))]
+// A field that has ended: a number, behind which a comma is due, or, behind a domain, the line's end.
+#[tactic(auto, unfolding(crate::specs::FrameLines::window_taken, crate::specs::FrameLines::as_due, crate::specs::FrameLines::due, basis::specs::Tests::pick))]
 fn take_ended(w: Windows, f: Field) -> Windows
-    ensures { result ≡ window_taken w f }
+    ensures { windows_of result ≡ window_taken (windows_of w) (field_of f) }
 {
-    if !is_due(w, f) {
+    if !is_plain(f) {
         return spoil(w);
     }
-    if w.second {
-        return take_length(w, f);
+    match (w.domain, f.ended) {
+        (None, Some(End::Comma)) => take_domain(w, f),
+        (Some(domain), Some(End::Line)) => take_length(w, domain, f),
+        _ => spoil(w),
     }
-    take_domain(w, f)
 }
 
-// The line's field, one character further.
+// The line's field, one character further; rows have the like (`row_line.rt` says why there is no trait).
 #[tactic(auto, unfolding(crate::specs::FrameLines::window_character, crate::specs::FrameLines::with_field, basis::specs::Tests::pick))]
-fn take_field(mut w: Windows, f: Field) -> Windows
-    ensures { result ≡ window_character w f }
+fn take_field(w: Windows, f: Field) -> Windows
+    ensures { windows_of result ≡ window_character (windows_of w) (field_of f) }
 {
-    if f.ended != 0 {
-        return take_ended(w, f);
+    match f.ended {
+        Some(_) => take_ended(w, f),
+        None => Windows { field: f, ..w },
     }
-    w.field = f;
-    w
 }
 
 // One character more of the text.
 #[tactic(auto, unfolding(crate::specs::FrameLines::windows_fed, basis::specs::Tests::pick))]
 pub fn feed_windows(w: Windows, b: u8) -> Windows
-    ensures { result ≡ windows_fed w b }
+    ensures { windows_of result ≡ windows_fed (windows_of w) b }
 {
     if w.bad {
         return w;
     }
-    let field = w.field;
-    take_field(w, feed(field, b))
+    take_field(w, feed(w.field, b))
 }
 
 // The characters of a part of the text.
 #[tactic(auto, using(crate::proofs::LineLaws::windows_next, crate::proofs::LineLaws::windows_end))]
-pub fn read_windows(w: Windows, part: &[u8]) -> Windows
-    ensures { result ≡ windows_read w part.now }
+pub fn read_windows(mut w: Windows, part: &[u8]) -> Windows
+    ensures { windows_of result ≡ windows_read (windows_of w) part.now }
 {
-    let mut v = w;
-    for i in 0..part.len() {
-        v = feed_windows(v, part[i]);
+    for b in part {
+        w = feed_windows(w, *b);
     }
-    v
+    w
 }
 
 // The end of the text: the last line may lack its end.
 #[tactic(auto, unfolding(crate::specs::FrameLines::windows_closed, basis::specs::Tests::pick))]
 pub fn close_windows(w: Windows) -> Windows
-    ensures { result ≡ windows_closed w }
+    ensures { windows_of result ≡ windows_closed (windows_of w) }
 {
-    let field = w.field;
-    if w.bad {
+    if w.bad || ends_line(w.field) {
         return w;
     }
-    if field.ended == 2 {
-        return w;
-    }
-    take_ended(w, close(field))
+    take_ended(w, close(w.field))
 }

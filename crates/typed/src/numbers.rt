@@ -1,128 +1,82 @@
 // The number that a field or a word is.
-ghost use Rattle.std.specs.Prelude.{◌≡◌, min};
-ghost use Rattle.typed.specs.Fields.{blank};
-ghost use Rattle.typed.specs.Numbers.{is_plain as a-plain, is_signed as a_signed, signed_value, signed, command, spelt, argument, signed_word};
+ghost use Rattle.std.specs.Prelude.{◌≡◌};
+ghost use Rattle.typed.specs.Fields.{field_of, blank as the-blank};
+ghost use Rattle.typed.specs.Numbers.{is_plain as a-plain, is_signed as a_signed, minus, signed_of as signed-given, argument_of, signed, command, spelt, argument, signed_word};
 
-use super::characters::take;
-use super::{Argument, Field, Signed};
+use super::characters::{blank, ends_line, take};
+use super::{Field, Size};
+
+// Whether a minus sign stands first.
+fn is_negative(f: Field) -> bool
+    ensures { result ≡ minus (field_of f) }
+{
+    matches!(f.size, Size::One(b'-') | Size::More(b'-'))
+}
 
 // Whether a field is digits only.
 #[tactic(auto, unfolding(crate::specs::Numbers::is_plain))]
 pub fn is_plain(f: Field) -> bool
-    ensures { result ≡ a-plain f }
+    ensures { result ≡ a-plain (field_of f) }
 {
-    if f.strange {
-        return false;
-    }
-    if f.size == 0 {
-        return false;
-    }
-    f.first != b'-'
+    !f.strange && f.size != Size::Empty && !is_negative(f)
 }
 
 // Whether it is digits with or without a minus sign.
 #[tactic(auto, unfolding(crate::specs::Numbers::is_signed, basis::specs::Tests::pick))]
 fn is_signed(f: Field) -> bool
-    ensures { result ≡ a_signed f }
+    ensures { result ≡ a_signed (field_of f) }
 {
-    if f.strange {
-        return false;
-    }
-    if f.first == b'-' {
-        return 1 < f.size;
-    }
-    0 < f.size
-}
-
-pub fn smaller(a: u64, b: u64) -> u64
-    ensures { result ≡ min a b }
-{
-    if a < b {
-        return a;
-    }
-    b
+    !f.strange && !matches!(f.size, Size::Empty | Size::One(b'-'))
 }
 
 // A field's value with its sign.
-#[tactic(auto, unfolding(crate::specs::Numbers::signed_value, basis::specs::Tests::pick))]
-fn valued(f: Field) -> i32
-    ensures { result ≡ signed_value f }
+#[tactic(auto, unfolding(crate::specs::Numbers::signed, crate::specs::Numbers::signed_value, basis::specs::Tests::pick))]
+fn sign(f: Field) -> Option<i32>
+    ensures { signed-given result ≡ signed (field_of f) }
 {
-    let v = smaller(f.value, 1000000) as i32;
-    if f.first == b'-' {
-        return 0 - v;
+    if !is_signed(f) {
+        return None;
     }
-    v
-}
-
-#[tactic(auto, unfolding(crate::specs::Numbers::signed, basis::specs::Tests::pick))]
-fn sign(f: Field) -> Signed
-    ensures { result ≡ signed f }
-{
-    if is_signed(f) {
-        let value = valued(f);
-        return Signed {
-            number: true,
-            value,
-        };
-    }
-    Signed {
-        number: false,
-        value: 0,
-    }
+    let v = f.value.min(1000000) as i32;
+    Some(if is_negative(f) { -v } else { v })
 }
 
 // The number of a line that is one field.
 #[tactic(auto, unfolding(crate::specs::Numbers::command, basis::specs::Tests::pick))]
-pub fn command_of(f: Field) -> Signed
-    ensures { result ≡ command f }
+pub fn command_of(f: Field) -> Option<i32>
+    ensures { signed-given result ≡ command (field_of f) }
 {
-    if f.ended == 2 {
+    if ends_line(f) {
         return sign(f);
     }
-    Signed {
-        number: false,
-        value: 0,
-    }
+    None
 }
 
 // A word, all of which is taken as one field.
 #[tactic(auto, using(crate::proofs::NumberLaws::spelt_next, crate::proofs::NumberLaws::spelt_end))]
 fn spell(word: &[u8]) -> Field
-    ensures { result ≡ spelt (blank 0) word.now }
+    ensures { field_of result ≡ spelt (the-blank 0) word.now }
 {
-    let mut f = Field {
-        start: 0,
-        at: 0,
-        size: 0,
-        first: 0,
-        value: 0,
-        strange: false,
-        cr: false,
-        ended: 0,
-    };
-    for i in 0..word.len() {
-        f = take(f, word[i]);
+    let mut f = blank(0);
+    for b in word {
+        f = take(f, *b);
     }
     f
 }
 
 // A word as a number.
 #[tactic(auto, unfolding(crate::specs::Numbers::argument, crate::specs::Numbers::plain, basis::specs::Tests::pick))]
-pub fn number_of(word: &[u8]) -> Argument
-    ensures { result ≡ argument word.now }
+pub fn number_of(word: &[u8]) -> Option<u64>
+    ensures { argument_of result ≡ argument word.now }
 {
     let f = spell(word);
-    if is_plain(f) {
-        return Argument::Number(f.value);
-    }
-    Argument::NoNumber
+    is_plain(f).then_some(f.value)
 }
 
-// A word as a number with or without a sign.
+// A word as a number with or without a sign, from -1,000,000 to 1,000,000.
 #[tactic(auto, unfolding(crate::specs::Numbers::signed_word))]
-pub fn signed_of(word: &[u8]) -> Signed
-    ensures { result ≡ signed_word word.now }
+pub fn signed_of(word: &[u8]) -> Option<i32>
+    ensures { signed-given result ≡ signed_word word.now }
 {
     sign(spell(word))
 }

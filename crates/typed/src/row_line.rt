@@ -1,191 +1,144 @@
 // One line of rows: its own faults, leftmost first.
-ghost use Rattle.std.specs.Prelude.{◌≡◌, ◌≤◌, set};
-ghost use Rattle.typed.specs.RowLine.{padded, fault as the-fault, unended, no_rows, refused_at, counted, row_added, row_taken, row_character, rows_fed, rows_closed, rows_read};
+ghost use Rattle.std.specs.Prelude.{◌≡◌};
+ghost use Rattle.basis.specs.Refusals.{number};
+ghost use Rattle.typed.specs.Fields.{field_of};
+ghost use Rattle.typed.specs.RowLine.{rows_of, padded, row_given, unended, no_rows, refused_at, row_added, row_taken, row_character, rows_fed, rows_closed, rows_read};
 
-use super::characters::{feed, new_text};
+use super::characters::{ends_line, feed, new_text};
+use super::lists::{one_more, stored};
 use super::numbers::is_plain;
-use super::{Field, Rows};
+use super::{Fault, Field, Rows, Size};
+use basis::Refusal;
 
 // The start of the line.
 pub fn new_rows() -> Rows
-    ensures { result ≡ no_rows }
+    ensures { rows_of result ≡ no_rows }
 {
-    let field = new_text();
     Rows {
-        field,
+        field: new_text(),
         count: 0,
         rows: [0u16; 16],
         starts: [0u64; 17],
         done: false,
-        why: 0,
-        place: 0,
+        fault: None,
     }
 }
 
 // Whether a zero stands before another character.
 #[tactic(auto, unfolding(crate::specs::RowLine::padded))]
 fn is_padded(f: Field) -> bool
-    ensures { result ≡ padded f }
+    ensures { result ≡ padded (field_of f) }
 {
-    if f.first != b'0' {
-        return false;
-    }
-    1 < f.size
+    matches!(f.size, Size::More(b'0'))
 }
 
-// Why an ended field is refused (0: it is not).
+// The row that an ended field is, or why it is refused.
 #[tactic(auto, unfolding(crate::specs::RowLine::fault, basis::specs::Tests::pick))]
-fn fault(f: Field) -> u8
-    ensures { result ≡ the-fault f }
+fn row_of(f: Field) -> Result<u16, Refusal>
+    ensures { row_given result (field_of f) }
 {
-    if f.size == 0 {
-        return 1;
+    if f.size == Size::Empty {
+        return Err(Refusal::EndsEarly);
     }
-    if is_padded(f) {
-        return 2;
-    }
-    if !is_plain(f) {
-        return 2;
+    if is_padded(f) || !is_plain(f) {
+        return Err(Refusal::NotShortest);
     }
     if 65535 < f.value {
-        return 3;
+        return Err(Refusal::TooLarge);
     }
-    0
+    Ok(f.value as u16)
 }
 
 #[tactic(auto, unfolding(crate::specs::RowLine::refused_at))]
-fn refuse(mut r: Rows, why: u8, place: u64) -> Rows
-    ensures { result ≡ refused_at why place r }
+fn refuse(r: Rows, why: Refusal, place: u64) -> Rows
+    ensures { rows_of result ≡ refused_at (number why) place (rows_of r) }
 {
-    r.why = why;
-    r.place = place;
-    r
-}
-
-// A row stored; behind the sixteenth none is.
-fn store_row(mut rows: [u16; 16], n: u8, v: u16) -> [u16; 16]
-    ensures { result ≡ set rows n v }
-{
-    if n < 16 {
-        rows[n as usize] = v;
-        return rows;
+    Rows {
+        fault: Some(Fault { why, place }),
+        ..r
     }
-    rows
 }
 
-// A field's place stored; behind the seventeenth none is.
-fn store_start(mut starts: [u64; 17], n: u8, at: u64) -> [u64; 17]
-    ensures { result ≡ set starts n at }
+// A row more, with the place of its field.
+#[tactic(auto, unfolding(crate::specs::RowLine::row_added, crate::specs::RowLine::counted))]
+fn add_row(r: Rows, f: Field, v: u16) -> Rows
+    requires { v ≡ f.value }
+    ensures { rows_of result ≡ row_added (rows_of r) (field_of f) }
 {
-    if n < 17 {
-        starts[n as usize] = at;
-        return starts;
-    }
-    starts
-}
-
-#[tactic(auto, unfolding(crate::specs::RowLine::counted, basis::specs::Tests::pick))]
-fn one_more(n: u8) -> u8
-    ensures { result ≡ counted n }
-{
-    if n < 17 {
-        return n + 1;
-    }
-    n
-}
-
-// A field more that has no fault.
-#[tactic(auto, unfolding(crate::specs::RowLine::row_added))]
-fn add_row(r: Rows, f: Field) -> Rows
-    requires { f.value ≤ 65535 }
-    ensures { result ≡ row_added r f }
-{
-    let rows = r.rows;
-    let starts = r.starts;
     Rows {
         field: f,
-        count: one_more(r.count),
-        rows: store_row(rows, r.count, f.value as u16),
-        starts: store_start(starts, r.count, f.start),
-        done: f.ended == 2,
-        why: r.why,
-        place: r.place,
+        count: one_more(r.count, 17),
+        rows: stored(r.rows, r.count, v),
+        starts: stored(r.starts, r.count, f.start),
+        done: ends_line(f),
+        ..r
     }
 }
 
 // A field that has ended.
-#[tactic(auto, using(crate::proofs::LineLaws::fault_none), unfolding(crate::specs::RowLine::row_taken, basis::specs::Tests::pick))]
 fn take_row(r: Rows, f: Field) -> Rows
-    ensures { result ≡ row_taken r f }
+    ensures { rows_of result ≡ row_taken (rows_of r) (field_of f) }
 {
-    let why = fault(f);
-    if why == 0 {
-        return add_row(r, f);
+    match row_of(f) {
+        Ok(v) => add_row(r, f, v),
+        Err(why) => refuse(r, why, f.start),
     }
-    refuse(r, why, f.start)
 }
 
-// The line's field, one character further.
+// The line's field, one character further. Windows have the like: a trait of both, with its laws, would be longer than the two functions.
 #[tactic(auto, unfolding(crate::specs::RowLine::row_character, basis::specs::Tests::pick, crate::specs::RowLine::with_field))]
-fn take_field(mut r: Rows, f: Field) -> Rows
-    ensures { result ≡ row_character r f }
+fn take_field(r: Rows, f: Field) -> Rows
+    ensures { rows_of result ≡ row_character (rows_of r) (field_of f) }
 {
-    if f.ended != 0 {
-        return take_row(r, f);
+    match f.ended {
+        Some(_) => take_row(r, f),
+        None => Rows { field: f, ..r },
     }
-    r.field = f;
-    r
 }
 
 // One character more of the text.
 #[tactic(auto, unfolding(crate::specs::RowLine::rows_fed, basis::specs::Tests::pick))]
 pub fn feed_rows(r: Rows, b: u8) -> Rows
-    ensures { result ≡ rows_fed r b }
+    ensures { rows_of result ≡ rows_fed (rows_of r) b }
 {
-    let field = r.field;
-    if r.why != 0 {
+    if r.fault.is_some() {
         return r;
     }
     if r.done {
-        return refuse(r, 10, field.at);
+        return refuse(r, Refusal::Extra, r.field.at);
     }
-    take_field(r, feed(field, b))
+    take_field(r, feed(r.field, b))
 }
 
 // The characters of a part of the text.
 #[tactic(auto, using(crate::proofs::LineLaws::rows_next, crate::proofs::LineLaws::rows_end))]
-pub fn read_rows(r: Rows, part: &[u8]) -> Rows
-    ensures { result ≡ rows_read r part.now }
+pub fn read_rows(mut r: Rows, part: &[u8]) -> Rows
+    ensures { rows_of result ≡ rows_read (rows_of r) part.now }
 {
-    let mut s = r;
-    for i in 0..part.len() {
-        s = feed_rows(s, part[i]);
+    for b in part {
+        r = feed_rows(r, *b);
     }
-    s
+    r
 }
 
 // The place of the field that the text ends in.
 #[tactic(auto, unfolding(crate::specs::RowLine::unended, basis::specs::Tests::pick))]
 fn open_place(f: Field) -> u64
-    ensures { result ≡ unended f }
+    ensures { result ≡ unended (field_of f) }
 {
-    if f.ended == 0 {
-        return f.start;
+    match f.ended {
+        None => f.start,
+        Some(_) => f.at,
     }
-    f.at
 }
 
 // The end of the text.
 #[tactic(auto, unfolding(crate::specs::RowLine::rows_closed, basis::specs::Tests::pick))]
 pub fn close_rows(r: Rows) -> Rows
-    ensures { result ≡ rows_closed r }
+    ensures { rows_of result ≡ rows_closed (rows_of r) }
 {
-    if r.why != 0 {
+    if r.fault.is_some() || r.done {
         return r;
     }
-    if r.done {
-        return r;
-    }
-    let field = r.field;
-    refuse(r, 1, open_place(field))
+    refuse(r, Refusal::EndsEarly, open_place(r.field))
 }

@@ -11,16 +11,11 @@ use state::{Progress, State};
 use table::Mark;
 
 // Whether a reached thread with this byte and progress runs.
+#[tactic(auto, unfolding(crate::specs::Walk::runs))]
 fn runs(b: u8, p: Progress) -> bool
     ensures { result ≡ runs b p }
 {
-    if b != 1 {
-        return false;
-    }
-    if p.finished {
-        return false;
-    }
-    0 < p.execution
+    b == 1 && !p.finished && 0 < p.execution
 }
 
 // Whether the walk ends with this answer.

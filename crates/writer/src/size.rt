@@ -18,7 +18,7 @@ fn number_size(v: u16) -> usize
     3
 }
 
-// How many bytes some numbers take; no row of numbers is longer.
+// How many bytes some numbers take: the rows or the fields of a thread, 16 at most.
 fn numbers_size(vs: &[u16]) -> usize
     requires { length vs.now ≤ 16 }
     ensures { (result ≡ length (encode_all vs.now)) × (result ≤ 3 * length vs.now) }

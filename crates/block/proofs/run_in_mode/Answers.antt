@@ -1,5 +1,5 @@
 -- `block::run_in_mode` meets its contract: the refusals, and then the steps, over all threads in their order or stretch by stretch.
-use Prim.Native.Nat.{ℕ, ◌<◌}
+use Prim.Native.Nat.{ℕ}
 use mathlib.Core.Path.{◌≡◌, sym}
 use mathlib.Core.List.{List}
 use mathlib.Core.Bool.{true}
@@ -14,7 +14,7 @@ use Rattle.state.specs.Given.{Usable}
 use Rattle.state.specs.declared.State.{State}
 use Rattle.state.proofs.FitLaws.{usable, fits_sound}
 use Rattle.order.proofs.OrderLaws.{order_below}
-use Rattle.frame.specs.Frame.{frame_ok, Timed}
+use Rattle.frame.specs.Frame.{Timed}
 use Rattle.frame.specs.Mode.{Mode, unframed, framed, mode_ok}
 use Rattle.frame.specs.declared.Frame.{Frame}
 use Rattle.frame.proofs.FrameLaws.{ok_framed, framed_timed}

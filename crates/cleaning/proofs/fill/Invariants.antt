@@ -6,9 +6,6 @@ use Rattle.cleaning.proofs.fill.Given as goal
 abbrev pub invariant-loop-k : goal.invariant-loop-k
 invariant-loop-k l = record {
   within : l.k ≤ l.m;
-  at_hand : l.c ≡ first (drop l.k (scanned l.n l.w l.trace));
+  at_hand : l.found ≡ first (drop l.k (scanned l.n l.w l.trace));
   written : l.list ≡ pasted l.k (scanned l.n l.w l.trace) l.initial.list;
 }
-
-abbrev pub decreases-loop-k : goal.decreases-loop-k
-decreases-loop-k l = l.m - l.k

@@ -7,6 +7,3 @@ use Rattle.cleaning.proofs.last_runner.Given as goal
 
 abbrev pub invariant-loop-i : goal.invariant-loop-i
 invariant-loop-i l = last_run l.t l.a (drop l.i l.trace) ≡ last_run l.t nobody l.trace
-
-abbrev pub decreases-loop-i : goal.decreases-loop-i
-decreases-loop-i l = length l.trace - l.i

@@ -11,4 +11,4 @@ returns-then-at-trace c = c.scan.ensures
 
 pub returns : goal.returns
 unfolding following
-returns c = c.no_cleaning.ensures ∙ sym (ap first (at_end _ _ _ _ _ (omega arith)))
+returns c = sym (ap first (at_end _ _ _ _ _ (omega arith)))

@@ -8,6 +8,3 @@ use Rattle.cleaning.proofs.scan.Given as goal
 
 abbrev pub invariant-loop-i : goal.invariant-loop-i
 invariant-loop-i l = first (cleaned (barred l.n l.w) l.n l.i l.a (drop l.i l.trace)) ≡ first (cleaned (barred l.n l.w) l.n l.from l.last (drop l.from l.trace))
-
-abbrev pub decreases-loop-i : goal.decreases-loop-i
-decreases-loop-i l = length l.trace - l.i

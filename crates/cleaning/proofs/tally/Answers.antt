@@ -7,7 +7,7 @@ use lib.ListN.{length, get_or, drop}
 use Rattle.basis.specs.Tests.{pick}
 use Rattle.cleaning.specs.Cleanings.{cleaned, known, all_known}
 use Rattle.cleaning.specs.Scan.{barred, scanned, tallied}
-use Rattle.cleaning.specs.declared.Report.TheVariants.{Cleaned}
+use Rattle.std.specs.Prelude.{Ok}
 use Rattle.cleaning.proofs.ScanLaws.{at-due, at_none, at_end, at-known, known_end}
 use Rattle.cleaning.proofs.tally.Goals as goal
 use Rattle.cleaning.proofs.tally.Goals.{then-must_clean, else-must_clean}
@@ -42,4 +42,4 @@ unfolding tallied pick
 returns c =
     let done = at_end (barred c.args.n c.args.w.now) c.args.n c.args.trace.now c.loop-i.i c.loop-i.a c.loop-i-test.false in
     let named : all_known c.args.n c.args.trace.now ≡ true = sym c.loop-i.invariant.2 ∙ known_end c.args.n c.args.trace.now c.loop-i.i c.loop-i-test.false in
-    rw named (ap Cleaned (omega (arith, rw done at c.loop-i.invariant.1)))
+    rw named (ap Ok (omega (arith, rw done at c.loop-i.invariant.1)))

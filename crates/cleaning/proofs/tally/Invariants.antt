@@ -8,6 +8,3 @@ use Rattle.cleaning.proofs.tally.Given as goal
 
 abbrev pub invariant-loop-i : goal.invariant-loop-i
 invariant-loop-i l = (l.m ≤ l.i) × (l.m + length (cleaned (barred l.n l.w) l.n l.i l.a (drop l.i l.trace)) ≡ length (scanned l.n l.w l.trace)) × (all_known l.n (drop l.i l.trace) ≡ all_known l.n l.trace)
-
-abbrev pub decreases-loop-i : goal.decreases-loop-i
-decreases-loop-i l = length l.trace - l.i

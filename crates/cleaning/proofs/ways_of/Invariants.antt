@@ -7,6 +7,3 @@ use Rattle.cleaning.proofs.ways_of.Given as goal
 
 abbrev pub invariant-loop-i : goal.invariant-loop-i
 invariant-loop-i l = (l.i ≤ 32) × (length l.w ≡ 64) × Begun l.t l.w l.i
-
-abbrev pub decreases-loop-i : goal.decreases-loop-i
-decreases-loop-i l = 32 - l.i

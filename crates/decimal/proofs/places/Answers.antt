@@ -1,16 +1,15 @@
 -- A digit is told off each turn, and the last number is one digit.
-use native.Mathlib.Omega.{arith}
-use Rattle.decimal.proofs.DecimalLaws.{counting_starts, counting_goes, counting_ends}
+use Rattle.decimal.proofs.DecimalLaws.{counting_starts, counting_goes, counting_ends, counting_last}
 use Rattle.decimal.proofs.places.Goals as goal
 
-pub loop-rest-init : goal.loop-rest-init
-loop-rest-init c = counting_starts _ c.ranges.n.fits
+pub loop-k-init : goal.loop-k-init
+loop-k-init c = counting_starts _ c.ranges.n.fits
 
-pub overflow_add-k : goal.overflow_add-k
-overflow_add-k c = omega (arith, c.loop-rest.invariant.few)
+pub returns-then-rest-lt10 : goal.returns-then-rest-lt10
+returns-then-rest-lt10 c = counting_ends c.loop-k.invariant c.if-rest-lt10.true
 
-pub loop-rest-preserved : goal.loop-rest-preserved
-loop-rest-preserved c = counting_goes c.loop-rest.invariant c.loop-rest-test.true
+pub loop-k-preserved : goal.loop-k-preserved
+loop-k-preserved c = counting_goes c.loop-k.invariant c.if-rest-lt10.false
 
 pub returns : goal.returns
-returns c = counting_ends c.loop-rest.invariant c.loop-rest-test.false
+returns c = counting_last c.loop-k.invariant c.loop-k-test.false

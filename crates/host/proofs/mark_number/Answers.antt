@@ -1,23 +1,16 @@
-use Rattle.basis.specs.Search.{nothing}
-use Prim.Native.Nat.{◌≤◌}
-use lib.ListN.{length, get_or-eq_default}
-use Rattle.basis.specs.Tests.{pick}
-use Rattle.table.specs.Mark.{mark, marks_given}
-use Rattle.table.proofs.MarkLaws.{marks_length}
-use Rattle.host.specs.Host.{mark_number}
-use Rattle.host.proofs.HostLaws.{number_by}
-use mathlib.Core.Path.{sym}
+use Rattle.std.proofs.Common.{◌≡◌, ◌∙◌, sym, ap, None}
+use native.Mathlib.Nat.{le_refl}
+use Rattle.host.specs.Host.{mark_told, mark_number}
+use Rattle.host.proofs.HostLaws.{mark_read}
 use Rattle.host.proofs.mark_number.Goals as goal
+use Rattle.host.proofs.mark_number.Goals.{After-flatten}
 
-pub returns-then-i-ge32 : goal.returns-then-i-ge32
-returns-then-i-ge32 c =
-    let h : length (marks_given c.args.t) ≤ c.args.i = rw (marks_length c.args.t) c.if-i-ge32.true in
-    sym (number_by c.args.t c.args.i nothing (get_or-eq_default (marks_given c.args.t) (mark nothing) h))
+-- The mark at hand.
+told : (c : After-flatten) → mark_told c.flatten.result ≡ mark_number c.args.t c.args.i
+told c = mark_read c.args.t c.args.i c.marks.result c.unwrap_or-marks.result c.copied.result c.flatten.result c.marks.ensures.1 c.unwrap_or-marks.ensures c.flatten.ensures (rw c.copied.ensures (c.get.ensures.lookup.4 (le_refl _) None))
 
-pub returns-then-mark : goal.returns-then-mark
-unfolding mark_number pick
-returns-then-mark c = simp (sym c.marks-m.ensures.1, c.if-mark.true)
+pub returns-in-Some : goal.returns-in-Some
+returns-in-Some c = c.from.ensures ∙ sym (ap mark_told c.in-Some.is) ∙ told (goal.at.returns-in-Some c).After-flatten
 
-pub returns : goal.returns
-unfolding mark_number pick
-returns c = simp (sym c.marks-m.ensures.1, c.if-mark.false)
+pub returns-in-None : goal.returns-in-None
+returns-in-None c = sym (ap mark_told c.in-None.is) ∙ told (goal.at.returns-in-None c).After-flatten

@@ -1,8 +1,6 @@
-use mathlib.Core.Path.{ap, ◌∙◌}
-use Rattle.reader.specs.Reader.{Read}
-use Rattle.host.specs.Host.{verdict}
+use Rattle.std.proofs.Common.{sym}
+use Rattle.host.proofs.HostLaws.{read_table}
 use Rattle.host.proofs.mikuzerao_verdict.Goals as goal
 
-pub returns : goal.returns
-unfolding verdict
-returns c = (c.number_of.ensures.0 ∙ ap (λ (r : Read). r.told.number) c.read-r.ensures.0, c.read-r.ensures.1)
+pub returns-in-Ok : goal.returns-in-Ok
+returns-in-Ok c = (sym (read_table _ _ c.in-Ok.ensures.0).0, c.in-Ok.ensures.1)

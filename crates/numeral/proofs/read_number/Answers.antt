@@ -13,13 +13,13 @@ returns-then-s-at c = (rw (drop_of_length-le _ c.if-s-at.true), held_bytes c.sha
 pub returns-then-b-lt128 : goal.returns-then-b-lt128
 unfolding number_at number pick
 returns-then-b-lt128 c = (
-  rw (drop-some _ _ _ c.wide-b.ensures.0 c.if-s-at.false, lt-ltb _ _ c.if-b-lt128.true),
+  rw (drop-some _ _ _ c.from-b.ensures c.if-s-at.false, lt-ltb _ _ c.if-b-lt128.true),
   held_bytes c.shared_slice_known-2-1.given,
 )
 
 pub returns : goal.returns
 unfolding number_at number pick
 returns c = (
-  rw (drop-some _ _ _ c.wide-b.ensures.0 c.if-s-at.false, le-ltb _ _ c.if-b-lt128.false) c.second_byte.ensures,
+  rw (drop-some _ _ _ c.from-b.ensures c.if-s-at.false, le-ltb _ _ c.if-b-lt128.false) c.second_byte.ensures,
   held_bytes c.shared_slice_known-2-1.given,
 )

@@ -11,12 +11,12 @@ returns-then-s-at c = rw (drop_of_length-le _ c.if-s-at.true)
 
 pub returns-then-b-eq0 : goal.returns-then-b-eq0
 unfolding second pick
-returns-then-b-eq0 c = rw (drop-some _ _ _ c.wide-b.ensures.0 c.if-s-at.false, eq-eqb _ _ c.if-b-eq0.true)
+returns-then-b-eq0 c = rw (drop-some _ _ _ c.from-b.ensures c.if-s-at.false, eq-eqb _ _ c.if-b-eq0.true)
 
 pub returns-then-b-lt128 : goal.returns-then-b-lt128
 unfolding second pick
-returns-then-b-lt128 c = rw (drop-some _ _ _ c.wide-b.ensures.0 c.if-s-at.false, ne_eqb _ _ c.if-b-eq0.false, lt-ltb _ _ c.if-b-lt128.true)
+returns-then-b-lt128 c = rw (drop-some _ _ _ c.from-b.ensures c.if-s-at.false, ne_eqb _ _ c.if-b-eq0.false, lt-ltb _ _ c.if-b-lt128.true)
 
 pub returns : goal.returns
 unfolding second pick
-returns c = rw (drop-some _ _ _ c.wide-b.ensures.0 c.if-s-at.false, ne_eqb _ _ c.if-b-eq0.false, le-ltb _ _ c.if-b-lt128.false) c.third_byte.ensures
+returns c = rw (drop-some _ _ _ c.from-b.ensures c.if-s-at.false, ne_eqb _ _ c.if-b-eq0.false, le-ltb _ _ c.if-b-lt128.false) c.third_byte.ensures

@@ -3,5 +3,5 @@ use Prim.Native.Nat.{◌≤◌}
 use Rattle.phrase.proofs.PhraseLaws.{Leaving}
 use Rattle.phrase.proofs.is_roomy.Given as goal
 
-abbrev pub invariant-loop-i : goal.invariant-loop-i
-invariant-loop-i l = (l.i ≤ l.i-end) × (l.j ≤ l.i) × Leaving l.template l.numbers l.room l.left l.i l.j
+abbrev pub invariant-loop-b : goal.invariant-loop-b
+invariant-loop-b l = (l.b-index ≤ l.b-index-end) × (l.j ≤ l.b-index) × Leaving l.template l.numbers l.room l.left l.b-index l.j

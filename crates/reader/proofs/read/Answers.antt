@@ -36,11 +36,11 @@ returns-in_err-cursor c =
 
 pub returns-in-Some : goal.returns-in-Some
 unfolding after_rows pick
-returns-in-Some c = rw (reading-is _ _ _ _ _ c.in_ok-v.ensures c.in_ok-d.ensures c.in_ok-n.ensures c.in_ok-cursor.ensures, gap-sought c.first_gap.result (first_gap c.in_ok-cursor.field-0.rows c.in_ok-d.d.value) c.first_gap.ensures, c.in-Some.is)
+returns-in-Some c = rw (reading-is _ _ _ _ _ c.in_ok-v.ensures c.in_ok-d.ensures c.in_ok-n.ensures c.in_ok-cursor.ensures, gap-sought c.first_gap.result (first_gap c.in_ok-cursor.rows c.in_ok-d.d.value) c.first_gap.ensures, c.in-Some.is)
 
 pub read_rest-requires : goal.read_rest-requires
 read_rest-requires c = ranged-most _ _ _ _ _ c.in_ok-n.ensures
 
 pub returns : goal.returns
 unfolding after_rows pick
-returns c = rw (reading-is _ _ _ _ _ c.in_ok-v.ensures c.in_ok-d.ensures c.in_ok-n.ensures c.in_ok-cursor.ensures, gap-sought c.first_gap.result (first_gap c.in_ok-cursor.field-0.rows c.in_ok-d.d.value) c.first_gap.ensures, c.in_default.is) c.read_rest.ensures
+returns c = rw (reading-is _ _ _ _ _ c.in_ok-v.ensures c.in_ok-d.ensures c.in_ok-n.ensures c.in_ok-cursor.ensures, gap-sought c.first_gap.result (first_gap c.in_ok-cursor.rows c.in_ok-d.d.value) c.first_gap.ensures, c.in_default.is) c.read_rest.ensures

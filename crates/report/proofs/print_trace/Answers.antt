@@ -8,29 +8,24 @@ use Rattle.report.proofs.print_trace.Goals as goal
 
 pub loop-k-init : goal.loop-k-init
 unfolding trace_lines
-loop-k-init c = (omega arith, omega arith, omega arith, put-none _ _)
+loop-k-init c = (omega arith, omega arith, put-none _ _)
 
 pub put_line-next-requires : goal.put_line-next-requires
 put_line-next-requires c =
-    omega (arith, c.loop-k.invariant.2, put-length c.loop-k.invariant.3, c.requires.0, c.loop-k-test.true)
-
-pub overflow_add-c : goal.overflow_add-c
-overflow_add-c c =
-    omega (arith, c.loop-k.invariant.1, c.requires.1, c.loop-k-test.true)
+    omega (arith, c.loop-k.invariant.1, put-length c.loop-k.invariant.2, c.requires.0, c.loop-k-test.true)
 
 pub loop-k-preserved : goal.loop-k-preserved
 loop-k-preserved c = (
   omega (arith, c.loop-k-test.true),
-  omega (arith, c.loop-k.invariant.1),
-  omega (arith, c.put_line-next.ensures.0, c.loop-k.invariant.2),
-  rw (trace_lines-next c.args.clock c.args.trace.now c.loop-k.k c.loop-k-test.true, ← c.loop-k.invariant.1) (put_join c.loop-k.invariant.3 c.put_line-next.ensures.1),
+  omega (arith, c.put_line-next.ensures.0, c.loop-k.invariant.1),
+  rw (trace_lines-next c.args.clock c.args.trace.now c.loop-k.k c.loop-k-test.true) (put_join c.loop-k.invariant.2 c.put_line-next.ensures.1),
 )
 
 pub shape_of-buf : goal.shape_of-buf
-shape_of-buf c = put-length c.loop-k.invariant.3
+shape_of-buf c = put-length c.loop-k.invariant.2
 
 pub returns : goal.returns
 returns c = (
-  omega (arith, c.loop-k.invariant.0, c.loop-k.invariant.2),
-  rw (take_all c.loop-k.k c.args.trace.now c.loop-k-test.false) at c.loop-k.invariant.3,
+  omega (arith, c.loop-k.invariant.0, c.loop-k.invariant.1),
+  rw (take_all c.loop-k.k c.args.trace.now c.loop-k-test.false) at c.loop-k.invariant.2,
 )

@@ -34,10 +34,10 @@ returns-then-not-mask_passes c =
     rw (fitting (goal.at.returns-then-not-mask_passes c).Else-not-fits, eq-eqb _ _ c.if-bytes-t.false, sym c.mask_passes.ensures ∙ c.if-not-mask_passes.true)
     c.refuse-then-not-mask_passes.ensures
 
-pub returns-then-s-ge-END_CLOCK : goal.returns-then-s-ge-END_CLOCK
+pub returns-then-s-ge-LAST_CLOCK : goal.returns-then-s-ge-LAST_CLOCK
 unfolding taken_then pick
-returns-then-s-ge-END_CLOCK c =
-    rw (fitting (goal.at.returns-then-s-ge-END_CLOCK c).Else-not-fits, eq-eqb _ _ c.if-bytes-t.false, masked (goal.at.returns-then-s-ge-END_CLOCK c).Else-not-mask_passes, le-ltb _ _ c.if-s-ge-END_CLOCK.true) c.refuse-then-s-ge-END_CLOCK.ensures
+returns-then-s-ge-LAST_CLOCK c =
+    rw (fitting (goal.at.returns-then-s-ge-LAST_CLOCK c).Else-not-fits, eq-eqb _ _ c.if-bytes-t.false, masked (goal.at.returns-then-s-ge-LAST_CLOCK c).Else-not-mask_passes, le-ltb _ _ c.if-s-ge-LAST_CLOCK.true) c.refuse-then-s-ge-LAST_CLOCK.ensures
 
 pub advance-w-requires : goal.advance-w-requires
 advance-w-requires c =
@@ -47,10 +47,10 @@ advance-w-requires c =
     record {
       usable = c.requires.usable;
       count_bound = (c.requires.count_bound.0, rw e c.requires.count_bound.1);
-      fits = (f, c.if-s-ge-END_CLOCK.false, omega (arith, c.requires.usable.few, e));
+      fits = (f, c.if-s-ge-LAST_CLOCK.false, omega (arith, c.requires.usable.few, e));
     }
 
 pub returns : goal.returns
 unfolding taken_then pick
 returns c =
-    rw (fitting (goal.at.returns c).Else-not-fits, eq-eqb _ _ c.if-bytes-t.false, masked (goal.at.returns c).Else-not-mask_passes, lt-ltb _ _ c.if-s-ge-END_CLOCK.false, ← c.advance-w.ensures)
+    rw (fitting (goal.at.returns c).Else-not-fits, eq-eqb _ _ c.if-bytes-t.false, masked (goal.at.returns c).Else-not-mask_passes, lt-ltb _ _ c.if-s-ge-LAST_CLOCK.false, ← c.advance-w.ensures)

@@ -12,6 +12,6 @@ pub returns-then-rest-eq0 : goal.returns-then-rest-eq0
 unfolding refusal_behind pick
 returns-then-rest-eq0 c = rw (le-ltb _ _ c.if-n-whole.false, eq-eqb _ _ c.if-rest-eq0.true)
 
-pub returns-else-rest-eq0 : goal.returns-else-rest-eq0
+pub returns : goal.returns
 unfolding refusal_behind pick
-returns-else-rest-eq0 c = rw (le-ltb _ _ c.if-n-whole.false, ne_eqb _ _ c.if-rest-eq0.false)
+returns c = rw (le-ltb _ _ c.if-n-whole.false, ne_eqb _ _ c.if-rest-eq0.false)

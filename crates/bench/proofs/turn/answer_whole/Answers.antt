@@ -23,8 +23,8 @@ play-p-requires g c =
 pub carry-requires : goal.carry-requires
 carry-requires g c = omega (arith, rest-within c.args.n c.args.t.count, c.requires.3)
 
-pub returns-then-p-ne0 : goal.returns-then-p-ne0
-returns-then-p-ne0 g c =
+pub returns-then-is_some : goal.returns-then-is_some
+returns-then-is_some g c =
     (c.play-p.ensures.1, mod-lt c.args.n c.requires.0.count_low, record { state = c.play-p.ensures.2.state; have = refl; rest = c.carry.ensures })
 
 pub slice_bounds-say-end-2 : goal.slice_bounds-say-end-2

@@ -1,24 +1,15 @@
--- The first i bytes are moved, and those from i on are as they were.
-use Prim.Native.Nat.{◌+◌, ◌<◌}
-use mathlib.Core.Path.{◌≡◌, refl, ◌∙◌}
-use native.Mathlib.Omega.{arith}
-use lib.ListN.{length, length-set}
-use Rattle.bench.proofs.CarryLaws.{carried, carried_rest}
+-- The bytes that were moved.
+use Rattle.std.proofs.Common.{◌≡◌, ◌+◌, ◌-◌, take, drop, ap, ◌∙◌, arith, length-drop}
+use lib.Seq.{paste}
+use Rattle.std.proofs.lemmas.List.Edits.{take-paste}
 use Rattle.bench.proofs.turn.carry.Goals as goal
-
-pub loop-i-init : goal.loop-i-init
-loop-i-init c = (omega arith, refl, refl, refl)
-
-pub loop-i-preserved : goal.loop-i-preserved
-loop-i-preserved c =
-    let inside : c.args.from + c.loop-i.i < length c.args.steps.now = omega (arith, c.requires, c.loop-i-test.true) in (
-      omega (arith, c.loop-i-test.true),
-      length-set c.loop-i.steps c.loop-i.i _ ∙ c.loop-i.invariant.1,
-      carried c.loop-i.steps c.args.steps.now c.args.from c.loop-i.i c.loop-i.invariant.1 inside c.loop-i.invariant.2 c.loop-i.invariant.3,
-      carried_rest c.loop-i.steps c.args.steps.now c.args.from c.loop-i.i c.loop-i.invariant.1 inside c.loop-i.invariant.2 c.loop-i.invariant.3 _,
-    )
 
 pub returns : goal.returns
 returns c =
-    let e : c.loop-i.i ≡ c.args.n = omega (arith, c.loop-i.invariant.0, c.loop-i-test.false) in
-    rw e at c.loop-i.invariant.2
+    let all = c.args.steps.now in
+    let n = c.args.n in
+    let from = c.args.from in
+    let many : from + n - from ≡ n = omega arith in
+    let same : n ≡ 0 + n = omega arith in
+    ap (take n) c.copy_within.ensures.after ∙ ap (λ j. take n (paste all 0 (drop from all) j)) many
+    ∙ ap (λ k. take k (paste all 0 (drop from all) n)) same ∙ take-paste all 0 (drop from all) n (omega arith) (omega (arith, length-drop from all))

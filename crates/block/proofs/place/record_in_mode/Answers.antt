@@ -1,8 +1,6 @@
 -- A place past the end is refused, and what the part's call gives is said of the whole record.
-use mathlib.Core.Path.{sym, ◌∙◌, ap}
 use native.Mathlib.Omega.{arith}
-use Rattle.block.specs.Block.{mode_of, Blocked}
-use Rattle.basis.specs.Refusals.{number}
+use Rattle.block.specs.Block.{mode_of}
 use Rattle.block.proofs.PlaceLaws.{recorded_past, recorded_part, part-inside}
 use Rattle.block.proofs.place.record_in_mode.Goals as goal
 

@@ -23,7 +23,7 @@ use Rattle.walk.specs.declared.Walked.{Walked}
 use Rattle.walk.proofs.WalkLaws.{slice_next}
 use Rattle.walk.proofs.StepLaws.{advance_clock, advance-fits}
 use Rattle.block.specs.Block.{inputs, end_of, trace_of}
-use Rattle.block.proofs.ThreadLaws.{moved, event_refills, event_empties, event-leaves, clock_refills, clock_empties, clock_leaves, each_more, ran_long, waits_long}
+use Rattle.block.proofs.ThreadLaws.{moved, event_refills, event_empties, event-leaves, clock_refills, clock_empties, clock_leaves, each_more, waits_long}
 use Rattle.block.proofs.EarlyLaws.{all_moved}
 use Rattle.block.proofs.VisitLaws.{on, Going, going_counted, going_runs, going_idles, going_next, going_passed, going_done, going_end, Traces, run-left}
 use Rattle.block.proofs.StretchLaws.{fits-at, clock_at, moved_long, moved-counted, next-state, next-trace, part-inside, part-is, part_length, next-part}

@@ -1,4 +1,3 @@
-use mathlib.Core.Path.{refl, sym}
 use Rattle.basis.specs.Tests.{pick}
 use Rattle.reader.specs.Reader.{judged}
 use Rattle.reader.proofs.steps.judge.Goals as goal

@@ -3,14 +3,11 @@ use native.Mathlib.Omega.{arith}
 use Rattle.report.proofs.TextLaws.{print_short, print_done}
 use Rattle.report.proofs.text.lay.Goals as goal
 
-pub returns-then-len-at : goal.returns-then-len-at
-returns-then-len-at c = print_short _ _ _ (omega arith)
+pub returns-in-Some : goal.returns-in-Some
+returns-in-Some c = print_done _ _ _ (omega arith) c.put.ensures
 
-pub returns-then-len-at-2 : goal.returns-then-len-at-2
-returns-then-len-at-2 c = print_short _ _ _ (omega arith)
+pub returns-in_default : goal.returns-in_default
+returns-in_default c = print_short _ _ _ (omega arith)
 
-pub put-next-requires : goal.put-next-requires
-put-next-requires c = record { fits = omega arith }
-
-pub returns : goal.returns
-returns c = print_done _ _ _ (omega arith) c.put-next.ensures
+pub returns-in_default-2 : goal.returns-in_default-2
+returns-in_default-2 c = print_short _ _ _ (omega arith)

@@ -37,7 +37,8 @@ put_byte-requires c =
 pub returns : goal.returns
 unfolding step_line
 returns c =
-    let short : length (decimal c.args.clock) ≤ 10 = decimal-short 10 c.args.clock (omega arith) (omega (arith, c.ranges.clock.fits)) in (
+    let short : length (decimal c.args.clock) ≤ 10 = decimal-short 10 c.args.clock (omega arith) (omega (arith, c.ranges.clock.fits)) in
+    rw (← c.answer_of.ensures) (
       omega (arith, c.put_choice-d.ensures.0, c.put_byte-c.ensures.end, c.put_number-a.ensures.end, c.put_byte.ensures.end),
       put_join (put_join (put_join c.put_number-a.ensures c.put_byte-c.ensures) c.put_choice-d.ensures.1) c.put_byte.ensures,
     )

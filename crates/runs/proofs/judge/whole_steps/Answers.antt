@@ -8,4 +8,4 @@ returns-then-count-eq0 c = steps-none _ _ _ c.if-count-eq0.true
 
 pub returns : goal.returns
 unfolding steps_in
-returns c = c.smaller.ensures
+returns c = c.min.ensures

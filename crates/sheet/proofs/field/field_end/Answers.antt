@@ -1,20 +1,17 @@
 -- What is left of the field is what was left at its start, less the characters passed.
-use mathlib.Core.Path.{refl}
+use mathlib.Core.Path.{sym, ◌∙◌, ap}
 use native.Mathlib.Omega.{arith}
-use Rattle.sheet.proofs.FieldLaws.{along_open, along_shut}
+use Rattle.sheet.specs.Field.{field_ends}
+use Rattle.sheet.proofs.FieldLaws.{along_open, along_shut, end_so, drop_all}
 use Rattle.sheet.proofs.field.field_end.Goals as goal
 
-pub loop-over-init : goal.loop-over-init
-loop-over-init c = record { rest = refl; tells = c.field_ends-over.ensures }
+pub returns-then-field_ends : goal.returns-then-field_ends
+returns-then-field_ends c =
+    along_shut _ _ _ c.loop-end.invariant (sym (c.field_ends.ensures ∙ ap field_ends (drop_all c.args.s.now c.loop-end.end)) ∙ c.if-field_ends.true)
 
-pub overflow_add-end : goal.overflow_add-end
-overflow_add-end c = let h = (along_open c.loop-over.invariant c.loop-over-test.true).0 in omega arith
-
-pub loop-over-smaller : goal.loop-over-smaller
-loop-over-smaller c = let h = (along_open c.loop-over.invariant c.loop-over-test.true).0 in omega arith
-
-pub loop-over-preserved : goal.loop-over-preserved
-loop-over-preserved c = record { rest = (along_open c.loop-over.invariant c.loop-over-test.true).1; tells = c.field_ends-over-in-loop-over.ensures }
+pub loop-end-preserved : goal.loop-end-preserved
+loop-end-preserved c =
+    along_open _ _ _ c.loop-end.invariant (sym (c.field_ends.ensures ∙ ap field_ends (drop_all c.args.s.now c.loop-end.end)) ∙ c.if-field_ends.false)
 
 pub returns : goal.returns
-returns c = along_shut c.loop-over.invariant c.loop-over-test.false
+returns c = end_so _ _ _ _ c.loop-end.invariant c.loop-end-test.false (λ h. omega arith) c.max.ensures

@@ -6,5 +6,5 @@ use lib.ListN.{drop}
 use Rattle.sheet.specs.Field.{all_digits, value_from}
 use Rattle.sheet.proofs.field.value_of.Given as goal
 
-abbrev pub invariant-loop-i : goal.invariant-loop-i
-invariant-loop-i l = (l.i ≤ l.i-end) × (l.v ≤ 65535) × (all_digits (drop l.i l.f) ≡ true) × (value_from l.v (drop l.i l.f) ≡ value_from 0 l.f)
+abbrev pub invariant-loop-b : goal.invariant-loop-b
+invariant-loop-b l = (l.v ≤ 65535) × (all_digits (drop l.b-index l.f) ≡ true) × (value_from l.v (drop l.b-index l.f) ≡ value_from 0 l.f)

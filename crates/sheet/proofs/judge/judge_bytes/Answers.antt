@@ -1,14 +1,16 @@
--- The three arms join what the byte form says with the text's own fault, which is the law `scan_reads`.
-use Rattle.sheet.proofs.ScanReads.{judged_so, passed_so}
+-- Both arms join what the byte form says with the text's own fault, which is the law `scan_reads`.
+use Rattle.sheet.specs.Scan.{Accepted}
+use Rattle.sheet.proofs.CodeJoins.{own-plain, own-met, judged_so, refused_so}
 use Rattle.sheet.proofs.judge.judge_bytes.Goals as goal
 
-pub returns-in-Accepted : goal.returns-in-Accepted
-returns-in-Accepted c = passed_so _ _ _ c.requires c.read-r.result c.read-r.ensures.0 _ c.in-Accepted.is c.passed.ensures
+pub passed-requires : goal.passed-requires
+passed-requires c = own-plain _ _ _ c.requires
 
-pub returns-in-Refused : goal.returns-in-Refused
-returns-in-Refused c =
-    judged_so _ _ _ c.requires c.read-r.result c.read-r.ensures.0 _ _ c.in-Refused.is c.objected.ensures
+pub returns-in-Ok : goal.returns-in-Ok
+returns-in-Ok c = judged_so _ _ _ c.requires Accepted c.in-Ok.t c.in-Ok.ensures.0 _ c.passed.ensures
 
-pub returns-in-Intransitive : goal.returns-in-Intransitive
-returns-in-Intransitive c =
-    judged_so _ _ _ c.requires c.read-r.result c.read-r.ensures.0 _ _ c.in-Intransitive.is c.gapped.ensures
+pub objected-requires : goal.objected-requires
+objected-requires c = record { own = own-plain _ _ _ c.requires; met = own-met _ _ _ c.requires c.in-Err.fault c.in-Err.ensures.0 }
+
+pub returns-in-Err : goal.returns-in-Err
+returns-in-Err c = refused_so _ _ _ c.requires c.in-Err.fault c.in-Err.ensures.0 _ c.objected.ensures

@@ -9,21 +9,18 @@ use Rattle.sheet.proofs.put.put_line.Goals as goal
 
 pub loop-i-init : goal.loop-i-init
 unfolding line_part
-loop-i-init c = (omega arith, put-none _ _)
+loop-i-init c = put-none _ _
 
 pub put_field-k-requires : goal.put_field-k-requires
-put_field-k-requires c = put_room c.loop-i.invariant.1 c.requires (line_room _ _ c.loop-i-test.true)
+put_field-k-requires c = put_room c.loop-i.invariant c.requires (line_room _ _ c.loop-i-test.true)
 
 pub loop-i-preserved : goal.loop-i-preserved
-loop-i-preserved c = (
-  omega arith,
-  rw (line-next _ _) (put_join c.loop-i.invariant.1 c.put_field-k.ensures),
-)
+loop-i-preserved c = rw (line-next _ _) (put_join c.loop-i.invariant c.put_field-k.ensures)
 
 pub shape_of-buf : goal.shape_of-buf
-shape_of-buf c = put-length c.loop-i.invariant.1
+shape_of-buf c = put-length c.loop-i.invariant
 
 pub returns : goal.returns
 returns c =
     let e : c.loop-i.i ≡ length c.args.vs.now = omega arith in
-    rw e at c.loop-i.invariant.1
+    rw e at c.loop-i.invariant

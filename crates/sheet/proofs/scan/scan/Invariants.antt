@@ -1,7 +1,6 @@
-use Prim.Native.Nat.{◌≤◌}
 use mathlib.Core.Path.{◌≡◌}
-use Rattle.sheet.specs.Scan.{scanned}
+use Rattle.sheet.specs.Scan.{cut_of, told_cut, scanned}
 use Rattle.sheet.proofs.scan.scan.Given as goal
 
-abbrev pub invariant-loop-i : goal.invariant-loop-i
-invariant-loop-i l = (l.i ≤ l.n) × (l.c ≡ scanned l.s l.i)
+abbrev pub invariant-loop : goal.invariant-loop
+invariant-loop l = cut_of l.c ≡ told_cut (scanned l.s l.counter)

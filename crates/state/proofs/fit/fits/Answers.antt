@@ -15,9 +15,9 @@ use Rattle.state.proofs.fit.fits.Goals as goal
 abbrev test : Table → State → ℕ → Bool
 test t s j = place_fits t s.clock j (progress s j)
 
-pub returns-then-clock-gt1000000000 : goal.returns-then-clock-gt1000000000
+pub returns-then-clock-gt-LAST_CLOCK : goal.returns-then-clock-gt-LAST_CLOCK
 unfolding fits
-returns-then-clock-gt1000000000 c = simp (lt-leb _ _ c.if-clock-gt1000000000.true)
+returns-then-clock-gt-LAST_CLOCK c = simp (lt-leb _ _ c.if-clock-gt-LAST_CLOCK.true)
 
 pub loop-i-init : goal.loop-i-init
 loop-i-init c = (search rules, every-none _)
@@ -37,4 +37,4 @@ pub returns : goal.returns
 unfolding fits
 returns c =
     let e = le_antisymm c.loop-i.invariant.0 c.loop-i-test.false in
-    simp (le-leb _ _ c.if-clock-gt1000000000.false) (sym (rw e at c.loop-i.invariant.1))
+    simp (le-leb _ _ c.if-clock-gt-LAST_CLOCK.false) (sym (rw e at c.loop-i.invariant.1))
