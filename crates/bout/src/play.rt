@@ -1,156 +1,102 @@
 // Both sides play, and the kind of what they say is told where they agree.
-use crate::{
-    IDLE, IDLE_FOR, IN_FRAME, LOST, MARKED, NO_EVENT, NOT_LEGAL, RAN, REFUSED, RELEASED, STARTED,
-    UNMARKED, UNSTARTED,
-};
-use dice::{below, below8};
-use same::{outcome_number, same_state};
-use scheduler::{Answer, Frame, Outcome, Progress, Starting, State, Stepped};
-use table::{Mark, Marking, Table, Thread};
-use tally::WRONG;
+use crate::Kind;
+use basis::Refusal;
+use dice::below;
+use scheduler::{Answer, Frame, Outcome, Progress, State, Stepped};
+use table::{Mark, Table, Thread};
+use tally::agreed;
 
-// What a step gave, by its kind, and the state after it.
-#[derive(Clone, Copy)]
+// What a step or a block gave, by its kind, and the state after it.
+#[derive(Clone, Copy, Debug, PartialEq, Eq)]
 pub struct Played {
-    pub kind: u32,
+    pub kind: Option<Kind>,
     pub state: State,
 }
 
-fn kind_of(o: Outcome) -> u32 {
+fn kind_of(o: Outcome, framed: bool) -> Kind {
     match o {
-        Outcome::Refused(n) => REFUSED + n as u32,
-        Outcome::Chose(a) => match a {
-            Answer::Ran(_) => RAN,
-            Answer::IdleFor(_) => IDLE_FOR,
-            Answer::Idle => IDLE,
-        },
+        Err(why) => Kind::Refused(why),
+        Ok(Answer::Ran(_)) => Kind::Ran { framed },
+        Ok(Answer::IdleFor(_)) => Kind::IdleFor { framed },
+        Ok(Answer::Idle) => Kind::Idle { framed },
     }
 }
 
-// Whether two sides gave the same, and a refused step the state that it was given.
-fn is_same(ours: Stepped, theirs: Stepped, s: State) -> bool {
-    let a = ours.outcome;
-    let b = theirs.outcome;
-    let number = outcome_number(a);
-    let unmoved = (number < 1000) | same_state(ours.state, s);
-    (number == outcome_number(b)) & same_state(ours.state, theirs.state) & unmoved
-}
-
-fn compare(ours: Stepped, theirs: Stepped, s: State) -> Played {
-    let o = ours.outcome;
-    let state = ours.state;
-    let kind = if is_same(ours, theirs, s) {
-        kind_of(o)
-    } else {
-        WRONG
-    };
-    Played { kind, state }
-}
-
-fn both(t: Table, s: State, mask: u32, bytes: &[u8]) -> Played {
-    let ours = scheduler::step(t, s, mask, bytes);
-    let theirs = rival::step(t, s, mask, bytes);
-    compare(ours, theirs, s)
-}
-
-fn both_in_frame(t: Table, f: Frame, s: State, mask: u32, bytes: &[u8]) -> Played {
-    let ours = scheduler::step_in_frame(t, f, s, mask, bytes);
-    let theirs = rival::step_in_frame(t, f, s, mask, bytes);
-    let mut r = compare(ours, theirs, s);
-    if r.kind <= IDLE {
-        r.kind = r.kind + IN_FRAME;
+// The proved side.
+fn ours(t: Table, frame: Option<Frame>, s: State, mask: u32, bytes: &[u8]) -> Stepped {
+    match frame {
+        Some(f) => scheduler::step_in_frame(t, f, s, mask, bytes),
+        None => scheduler::step(t, s, mask, bytes),
     }
-    r
 }
 
-// A step with the events of a mask, on the first n bytes.
-pub fn step(t: Table, s: State, mask: u32, bytes: &[u8], n: u8) -> Played {
-    let end = n as usize;
-    if end <= bytes.len() {
-        return both(t, s, mask, &bytes[..end]);
+// A step with the events of a mask on the first n bytes, in the frame if there is one. A refused one hands back the state that it was
+// given.
+pub fn step(
+    t: Table,
+    frame: Option<Frame>,
+    s: State,
+    mask: u32,
+    all: &[u8],
+    n: u8,
+) -> Played {
+    let bytes = &all[..all.len().min(n as usize)];
+    let got = ours(t, frame, s, mask, bytes);
+    let unmoved = got.outcome.is_ok() || got.state == s;
+    let same = unmoved && got == rival::step(t, frame, s, mask, bytes);
+    Played {
+        kind: same.then_some(kind_of(got.outcome, frame.is_some())),
+        state: got.state,
     }
-    both(t, s, mask, bytes)
 }
 
-// The same in a frame.
-pub fn step_in_frame(t: Table, f: Frame, s: State, mask: u32, bytes: &[u8], n: u8) -> Played {
-    let end = n as usize;
-    if end <= bytes.len() {
-        return both_in_frame(t, f, s, mask, &bytes[..end]);
-    }
-    both_in_frame(t, f, s, mask, bytes)
-}
-
-// What becomes of thread i's event in a step that is made, for the count alone: the thread is released, or the event came too early.
-pub fn event(f: Thread, p: Progress, mask: u32, i: u8) -> u32 {
+// What becomes of thread i's event in a step that is made, if it has one: the thread is released, or the event came too early.
+pub fn event(f: Thread, p: Progress, mask: u32, i: u8) -> Option<Kind> {
     if mask >> i % 32 & 1 == 0 {
-        return NO_EVENT;
+        return None;
     }
-    if p.since < f.period { LOST } else { RELEASED }
-}
-
-fn starting_number(a: Starting) -> u32 {
-    match a {
-        Starting::Done => 0,
-        Starting::NotLegal => 1011,
-    }
+    Some(if p.since < f.period {
+        Kind::Lost
+    } else {
+        Kind::Released
+    })
 }
 
 // The state before the first step.
-pub fn fresh(t: Table) -> u32 {
-    let ours = scheduler::fresh(t);
-    let theirs = rival::fresh(t);
-    let a = ours.answer;
-    let b = theirs.answer;
-    let number = starting_number(a);
-    if (number != starting_number(b)) | !same_state(ours.state, theirs.state) {
-        return WRONG;
-    }
-    if number == 0 { STARTED } else { UNSTARTED }
+pub fn fresh(t: Table) -> Option<Kind> {
+    agreed(scheduler::fresh(t), rival::fresh(t), |fresh| {
+        if fresh.is_ok() { Kind::Started } else { Kind::Unstarted }
+    })
 }
 
 // A number of bytes that is often not the number of threads.
 pub fn some_length(seed: u64, count: u8) -> u8 {
-    match below(seed, 60, 6) {
+    match below(seed, 60, 6u16) {
         0 => 0,
-        1 => std::num::wrapping_add_u8(count, 1),
-        2 => below8(seed, 61, 40),
+        1 => count.wrapping_add(1),
+        2 => below(seed, 61, 40),
         _ => count,
     }
 }
 
-// How many of the marks are set, and 100 for each place where the two differ.
-fn compared(a: [Mark; 32], b: [Mark; 32]) -> u32 {
-    let mut sum = 0u32;
-    for i in 0..32usize {
-        let ours = a[i];
-        let theirs = b[i];
-        if ours.set {
-            sum = std::num::wrapping_add_u32(sum, 1);
-        }
-        if (ours.set != theirs.set) | (ours.thread != theirs.thread) {
-            sum = std::num::wrapping_add_u32(sum, 100);
+fn kind_of_marks(marks: Result<[Mark; 32], Refusal>) -> Kind {
+    match marks {
+        Err(_) => Kind::NotLegal,
+        Ok(marks) => {
+            if marks.iter().any(|mark| mark.is_some()) {
+                Kind::Marked
+            } else {
+                Kind::Unmarked
+            }
         }
     }
-    sum
 }
 
 // The marks, and whether the table is legal.
-pub fn marks(t: Table) -> u32 {
-    let m = table::marks(t);
-    let marks = m.marks;
-    let answer = m.answer;
-    let done = match answer {
-        Marking::Done => true,
-        Marking::NotLegal => false,
-    };
-    let good = rival_table::legal(t);
-    let sum = compared(marks, rival_table::marks(t));
-    if (sum >= 100) | (good != done) | (good != table::legal(t)) {
-        return WRONG;
+pub fn marks(t: Table) -> Option<Kind> {
+    let ours = table::marks(t);
+    if ours.is_ok() != table::legal(t) {
+        return None;
     }
-    if sum != 0 {
-        return MARKED;
-    }
-    if good { UNMARKED } else { NOT_LEGAL }
+    agreed(ours, rival_table::marks(t), kind_of_marks)
 }

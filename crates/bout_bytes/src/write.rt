@@ -1,81 +1,57 @@
-// The writer, from any place of a buffer of any room, held against the second writer.
-use crate::{NO_ROOM, NOT_LEGAL, WRITTEN};
+// A writer, from any place of a buffer of any room, held against a second writer.
+use crate::Kind;
+use basis::Refusal;
 use dice::below;
-use std::num::{wrapping_add_usize, wrapping_sub_usize};
+use rival_bytes::Page;
+use rival_table::{legal, unless};
 use table::Table;
-use tally::WRONG;
-use writer::Writing;
+use tally::agreed;
 
 // What stands in a buffer before.
 const BEFORE: u8 = 170;
 
-// The place behind what was written, or 100,000 and the refusal.
-pub fn number_of(w: Writing) -> usize {
-    match w {
-        Writing::Written(n) => n,
-        Writing::NotLegal => 100011,
-        Writing::NoRoom => 100016,
-    }
+// What a second writer says of so many bytes: the place behind them.
+fn wanted(t: Table, len: usize, room: usize, at: usize) -> Result<usize, Refusal> {
+    unless(legal(t), Refusal::NotLegal)?;
+    let end = at.wrapping_add(len);
+    unless(end <= room, Refusal::NoRoom)?;
+    Ok(end)
 }
 
-// Into the first so many bytes.
-fn put(t: Table, buf: &mut [u8], room: usize, at: usize) -> usize {
-    if room <= buf.len() {
-        let w = codec::write(t, &mut buf[..room], at);
-        return number_of(w);
-    }
-    let w = codec::write(t, buf, at);
-    number_of(w)
+// Whether the bytes of a page stand from a place up to another, and all others are as before.
+fn is_there<const N: usize>(buf: &[u8], page: Page<N>, from: usize, to: usize) -> bool {
+    buf.iter().enumerate().all(|(i, b)| {
+        let inside = from <= i && i < to;
+        *b == if inside { page.byte(i.wrapping_sub(from)) } else { BEFORE }
+    })
 }
 
-// What the second writer says of so many bytes.
-pub fn wanted(t: Table, len: usize, room: usize, at: usize) -> usize {
-    if !rival_table::legal(t) {
-        return 100011;
-    }
-    if wrapping_add_usize(at, len) > room {
-        return 100016;
-    }
-    wrapping_add_usize(at, len)
-}
-
-// Whether the bytes stand from a place up to another, and all others are as before.
-fn is_there(buf: [u8; 900], bytes: [u8; 900], from: usize, to: usize) -> bool {
-    let mut same = true;
-    for i in 0..900usize {
-        let there = bytes[wrapping_sub_usize(i, from) % 900];
-        let want = if (from <= i) & (i < to) {
-            there
-        } else {
-            BEFORE
-        };
-        same = same & (buf[i] == want);
-    }
-    same
-}
-
-// From the first places on, into as much room as is needed, a byte more or less, or none.
-pub fn written(seed: u64, t: Table) -> u32 {
-    let page = rival_bytes::write(t);
-    let bytes = page.bytes;
-    let at = below(seed, 31, 60) as usize;
-    let end = wrapping_add_usize(at, page.len) % 900;
-    let room = match below(seed, 32, 8) {
-        0 => wrapping_sub_usize(end, 1) % 900,
+// From the first places on, into as much room as is needed, a byte more or less, or none. The page is what the second writer wrote.
+pub fn write<const N: usize, Write: Fn(Table, &mut [u8], usize) -> Result<usize, Refusal>>(
+    seed: u64,
+    t: Table,
+    page: Page<N>,
+    write: Write,
+) -> Option<Kind>
+    requires { Write.IsAlwaysCallable write }
+{
+    let at = below(seed, 31, 60u16) as usize;
+    let end = page.place(at.wrapping_add(page.len));
+    let room = match below(seed, 32, 8u16) {
+        0 => page.place(end.wrapping_sub(1)),
         1 => at / 2,
         2 | 3 => end,
-        4 => wrapping_add_usize(end, 1) % 901,
-        _ => 900,
+        4 => end + 1,
+        _ => N,
     };
-    let mut buf = [BEFORE; 900];
-    let number = put(t, &mut buf, room, at);
-    let to = if number < 100000 { number } else { 0 };
-    if (number != wanted(t, page.len, room, at)) | !is_there(buf, bytes, at, to) {
-        return WRONG;
+    let mut buf = [BEFORE; N];
+    let ours = write(t, &mut buf[..room.min(N)], at);
+    if !is_there(&buf, page, at, ours.unwrap_or(0)) {
+        return None;
     }
-    match number {
-        100011 => NOT_LEGAL,
-        100016 => NO_ROOM,
-        _ => WRITTEN,
-    }
+    agreed(ours, wanted(t, page.len, room, at), |written| match written {
+        Ok(_) => Kind::Written,
+        Err(Refusal::NotLegal) => Kind::NotLegal,
+        Err(_) => Kind::NoRoom,
+    })
 }

@@ -2,17 +2,17 @@
 #![tactic(auto)]
 
 use actuator::{Actuator, Driven};
-use dice::{below, below8, part, seldom};
+use basis::Refusal;
+use dice::{below, part, seldom};
 use example::{example, story};
-use rival_actuator::agrees;
-use same::outcome_number;
-use scheduler::State;
+use rival_actuator::{Call, agrees};
+use scheduler::{Answer, Outcome, State};
 use table::Table;
-use tally::{Tally, WRONG, count, line};
+use tally::{Tally, WRONG, count, count_agreed, line};
 
 // A command: an end of its type, an end of the range, one beyond it, or some number near the range.
 fn command(seed: u64) -> i64 {
-    match below(seed, 1, 12) {
+    match below(seed, 1, 12u16) {
         0 => -9223372036854775808,
         1 => 9223372036854775807,
         2 => -5001,
@@ -30,7 +30,7 @@ fn near(dice: u64) -> i64 {
 
 // A start position: an end of its type, one beyond the range, or some number of the range.
 fn place(seed: u64) -> i32 {
-    match below(seed, 3, 96) {
+    match below(seed, 3, 96u16) {
         0 => -2147483648,
         1 => 2147483647,
         2 => -5001,
@@ -45,21 +45,21 @@ fn within(dice: u64) -> i32 {
 }
 
 fn rate(seed: u64) -> u32 {
-    match below(seed, 5, 64) {
+    match below(seed, 5, 64u16) {
         0 => 0,
         1 => 1001,
         2 => 4294967295,
         3 => 1,
         4 => 1000,
-        _ => 1 + below(seed, 6, 1000) as u32,
+        _ => 1 + below(seed, 6, 1000u16) as u32,
     }
 }
 
 fn thread(seed: u64) -> u8 {
-    match below(seed, 7, 96) {
+    match below(seed, 7, 96u16) {
         0 => 3,
         1 => 255,
-        _ => below8(seed, 8, 3),
+        _ => below(seed, 8, 3),
     }
 }
 
@@ -92,84 +92,9 @@ fn mask(version: u8, seed: u64) -> u32 {
     0
 }
 
-// What is damaged in a call: nothing (0) in three of four.
-fn harm(seed: u64) -> u16 {
-    if !seldom(seed, 10, 4) {
-        return 0;
-    }
-    std::num::wrapping_add_u16(1, below(seed, 11, 18))
-}
-
-// 1 and 2: a table without threads, and one whose first domain does not flow to itself.
-fn harmed_table(t: Table, harm: u16) -> Table {
-    let mut h = t;
-    if harm == 1 {
-        h.count = 0;
-    }
-    if harm == 2 {
-        h.rows[0] = 6;
-    }
-    h
-}
-
-// 3, 4 and 5: a clock past the last, an unused place that is not zero, and the last clock; 16 too, with the rate.
-fn harmed_state(s: State, harm: u16) -> State {
-    let mut h = s;
-    match harm {
-        3 => h.clock = 1000000001,
-        4 => h.threads[31].rest = 1,
-        5 | 16 => h.clock = 1000000000,
-        _ => {}
-    }
-    h
-}
-
-// 6 and 7: no byte, and a byte too many; 15 too, with the thread.
-fn length(count: u8, harm: u16) -> usize {
-    match harm {
-        6 => 0,
-        7 | 15 => 4,
-        _ => {
-            if count == 2 {
-                return 2;
-            }
-            3
-        }
-    }
-}
-
-// 17 and 18: an event of a periodic thread, and one of a missing thread.
-fn harmed_mask(mask: u32, harm: u16) -> u32 {
-    match harm {
-        17 => 1,
-        18 => 2147483648,
-        _ => mask,
-    }
-}
-
-// 8: no such thread, 18 too; 9: a rate of 0, 16 too; 10 to 13: a position or a command one beyond an end, or an end of the type; 14 and
-// 15: a thread and a rate.
-fn harmed_actuator(a: Actuator, harm: u16) -> Actuator {
-    let mut b = a;
-    match harm {
-        8 | 18 => b.thread = 200,
-        9 | 16 => b.rate = 0,
-        10 => b.position = -5001,
-        11 => b.position = 95001,
-        12 => b.command = 95001,
-        13 => b.command = -2147483648,
-        14 | 15 => {
-            b.thread = 200;
-            b.rate = 1001;
-        }
-        _ => {}
-    }
-    b
-}
-
 // The byte of thread i: mostly run, else wait, finish or a strange one.
 fn byte(seed: u64, i: u32) -> u8 {
-    match below(part(seed, 12), i, 8) {
+    match below(part(seed, 12), i, 8u16) {
         0 => 0,
         1 => 2,
         2 => 3,
@@ -177,52 +102,91 @@ fn byte(seed: u64, i: u32) -> u8 {
     }
 }
 
-// A refused drive is counted by its number.
-const MOVED: u32 = 0;
-
-const HEARD: u32 = 30;
-
-// By the number of the outcome, which is 1,000 and more where the drive was refused.
-fn count_drive(tally: &mut Tally, number: u32, thread: u8, good: bool) {
-    if number == thread as u32 {
-        count(tally, HEARD);
+// A call with something wrong in it: one in four. The bytes are one more than any of the tables asks for.
+fn harmed<'a>(seed: u64, call: Call<'a>, bytes: &'a [u8]) -> Option<Call<'a>> {
+    if !seldom(seed, 10, 4) {
+        return None;
     }
-    if !good {
-        count(tally, WRONG);
-    } else if number < 1000 {
-        count(tally, MOVED);
-    } else {
-        count(tally, std::num::wrapping_sub_u32(number, 1000));
+    let mut c = call;
+    match below(seed, 11, 18u16) {
+        // a table without threads, and one whose first domain does not flow to itself
+        0 => c.table.count = 0,
+        1 => c.table.rows[0] = 6,
+        // a clock past the last, an unused place that is not zero, and the last clock
+        2 => c.state.clock = 1000000001,
+        3 => c.state.threads[31].rest = 1,
+        4 => c.state.clock = 1000000000,
+        // no byte, and a byte too many
+        5 => c.bytes = b"",
+        6 => c.bytes = bytes,
+        // no such thread, and a rate of 0
+        7 => c.actuator.thread = 200,
+        8 => c.actuator.rate = 0,
+        // a position or a command one beyond an end, or an end of the type
+        9 => c.actuator.position = -5001,
+        10 => c.actuator.position = 95001,
+        11 => c.actuator.command = 95001,
+        12 => c.actuator.command = -2147483648,
+        // an event of a periodic thread
+        16 => c.mask = 1,
+        // two at once: no such thread with a rate, a byte too many as well, or an event of a missing thread; and a rate with the last clock
+        13 => {
+            c.actuator.thread = 200;
+            c.actuator.rate = 1001;
+        }
+        14 => {
+            c.actuator.thread = 200;
+            c.actuator.rate = 1001;
+            c.bytes = bytes;
+        }
+        15 => {
+            c.actuator.rate = 0;
+            c.state.clock = 1000000000;
+        }
+        _ => {
+            c.actuator.thread = 200;
+            c.mask = 2147483648;
+        }
     }
+    Some(c)
+}
+
+#[derive(Clone, Copy, Debug, PartialEq, Eq)]
+enum Kind {
+    Moved,
+    // by a command that was taken
+    Heard,
+    Refused(Refusal),
+}
+
+// Where a kind is counted: a refused drive at its number.
+impl From<Kind> for u32 {
+    fn from(kind: Kind) -> u32 {
+        match kind {
+            Kind::Moved => 0,
+            Kind::Heard => 30,
+            Kind::Refused(why) => u8::from(why) as u32,
+        }
+    }
+}
+
+fn kind_of(o: Outcome) -> Kind {
+    match o {
+        Ok(_) => Kind::Moved,
+        Err(why) => Kind::Refused(why),
+    }
+}
+
+fn drive(c: Call) -> Driven {
+    actuator::drive(c.table, c.state, c.actuator, c.mask, c.bytes, c.command)
 }
 
 // A drive, and whether it agrees with the second actuator.
-#[derive(Clone, Copy)]
-struct Drive {
-    driven: Driven,
-    good: bool,
-}
-
-fn both(t: Table, s: State, a: Actuator, mask: u32, bytes: &[u8], command: i64) -> Drive {
-    let driven = actuator::drive(t, s, a, mask, bytes, command);
-    let good = agrees(driven, t, s, a, mask, bytes, command);
-    Drive { driven, good }
-}
-
-// On the first n bytes.
-fn both_on(
-    t: Table,
-    s: State,
-    a: Actuator,
-    mask: u32,
-    bytes: &[u8],
-    n: usize,
-    command: i64,
-) -> Drive {
-    if n <= bytes.len() {
-        return both(t, s, a, mask, &bytes[..n], command);
+fn count_drive(tally: &mut Tally, c: Call, r: Driven) {
+    if r.outcome == Ok(Answer::Ran(c.actuator.thread)) {
+        count(tally, Kind::Heard);
     }
-    both(t, s, a, mask, bytes, command)
+    count_agreed(tally, agrees(r, c).then_some(kind_of(r.outcome)));
 }
 
 // A run under way.
@@ -234,37 +198,34 @@ struct Game {
 
 // One call. A damaged call is made beside the run, which goes on from where it was.
 fn round(tally: &mut Tally, t: Table, g: Game, seed: u64) -> Game {
-    let s = g.state;
-    let a = g.actuator;
-    let h = harm(seed);
     let bytes = [byte(seed, 0), byte(seed, 1), byte(seed, 2), 1];
-    let b = harmed_actuator(a, h);
-    let u = harmed_table(t, h);
-    let d = both_on(
-        u,
-        harmed_state(s, h),
-        b,
-        harmed_mask(mask(t.version, seed), h),
-        &bytes,
-        length(t.count, h),
-        command(seed),
-    );
-    let r = d.driven;
-    let o = r.outcome;
-    count_drive(tally, outcome_number(o), b.thread, d.good);
-    if h != 0 {
+    let whole = Call {
+        table: t,
+        state: g.state,
+        actuator: g.actuator,
+        mask: mask(t.version, seed),
+        bytes: if t.count == 2 { &bytes[..2] } else { &bytes[..3] },
+        command: command(seed),
+    };
+    if let Some(c) = harmed(seed, whole, &bytes) {
+        count_drive(tally, c, drive(c));
         return g;
     }
-    let state = r.state;
-    let actuator = r.actuator;
-    Game { state, actuator }
+    let r = drive(whole);
+    count_drive(tally, whole, r);
+    Game {
+        state: r.state,
+        actuator: r.actuator,
+    }
 }
 
 // A run of 30 calls.
 fn play(tally: &mut Tally, seed: u64) {
     let t = table(seed);
-    let started = scheduler::fresh(t);
-    let state = started.state;
+    let Ok(state) = scheduler::fresh(t) else {
+        count(tally, WRONG);
+        return;
+    };
     let actuator = actuator::start(place(seed), rate(seed), thread(seed));
     let mut g = Game { state, actuator };
     for k in 0..30u32 {
@@ -273,15 +234,15 @@ fn play(tally: &mut Tally, seed: u64) {
 }
 
 fn report(tally: &Tally) {
-    line(tally, MOVED, b" drives moved, as a second actuator does\n");
-    line(tally, HEARD, b" took a command\n");
-    line(tally, 11, b" refused with 11\n");
-    line(tally, 12, b" refused with 12\n");
-    line(tally, 13, b" refused with 13\n");
-    line(tally, 14, b" refused with 14\n");
-    line(tally, 15, b" refused with 15\n");
-    line(tally, 18, b" refused with 18\n");
-    line(tally, 20, b" refused with 20\n");
+    line(tally, Kind::Moved, b" drives moved, as a second actuator does\n");
+    line(tally, Kind::Heard, b" took a command\n");
+    line(tally, Kind::Refused(Refusal::NotLegal), b" refused with 11\n");
+    line(tally, Kind::Refused(Refusal::NotFitting), b" refused with 12\n");
+    line(tally, Kind::Refused(Refusal::StepBytes), b" refused with 13\n");
+    line(tally, Kind::Refused(Refusal::LastClock), b" refused with 14\n");
+    line(tally, Kind::Refused(Refusal::Missing), b" refused with 15\n");
+    line(tally, Kind::Refused(Refusal::EventMask), b" refused with 18\n");
+    line(tally, Kind::Refused(Refusal::Actuator), b" refused with 20\n");
     line(tally, WRONG, b" disagreements\n");
 }
 

@@ -5,40 +5,36 @@
 mod report;
 
 use dice::{part, seldom};
+use report::Dealt;
 use scheduler::{Frame, State};
+use spoil::{StateDamage, TableDamage};
 use table::Table;
-use tally::{Tally, count};
+use tally::{Tally, WRONG, count, count_agreed};
 
 // What becomes of the events of a step that is made.
 fn events(tally: &mut Tally, t: Table, s: State, mask: u32) {
     for i in 0..32u8 {
-        let f = t.threads[i as usize % 32];
-        let p = s.threads[i as usize % 32];
-        count(tally, bout::event(f, p, mask, i));
+        let place = i as usize;
+        if let Some(kind) = bout::event(t.threads[place], s.threads[place], mask, i) {
+            count(tally, kind);
+        }
     }
 }
 
-// One step of a run; the state after it.
-fn turn(tally: &mut Tally, t: Table, s: State, mask: u32, bytes: &[u8]) -> State {
-    let r = bout::step(t, s, mask, bytes, t.count);
-    count(tally, r.kind);
-    if r.kind <= bout::IDLE {
-        events(tally, t, s, mask);
-    }
-    r.state
-}
-
-// The same in a frame.
-fn turn_in_frame(
+// One step of a run; the state after it. Events are counted in a step without a frame.
+fn turn(
     tally: &mut Tally,
     t: Table,
-    f: Frame,
+    frame: Option<Frame>,
     s: State,
     mask: u32,
     bytes: &[u8],
 ) -> State {
-    let r = bout::step_in_frame(t, f, s, mask, bytes, t.count);
-    count(tally, r.kind);
+    let r = bout::step(t, frame, s, mask, bytes, t.count);
+    count_agreed(tally, r.kind);
+    if frame.is_none() && r.kind.is_some_and(|kind| kind.is_step()) {
+        events(tally, t, s, mask);
+    }
     r.state
 }
 
@@ -50,8 +46,8 @@ fn run(tally: &mut Tally, seed: u64, t: Table, f: Frame, from: State, steps: u32
         let own = part(seed, k);
         let bytes = deal::bytes(own);
         let mask = deal::mask(own, t);
-        s = turn(tally, t, s, mask, &bytes);
-        framed = turn_in_frame(tally, t, f, framed, mask, &bytes);
+        s = turn(tally, t, None, s, mask, &bytes);
+        framed = turn(tally, t, Some(f), framed, mask, &bytes);
     }
 }
 
@@ -60,7 +56,7 @@ fn block_turn(tally: &mut Tally, seed: u64, t: Table, f: Frame, s: State) -> Sta
     let bytes = deal::block_bytes(seed);
     let masks = deal::block_masks(seed, t);
     let r = bout::steps_in_block(seed, t, f, s, &masks, &bytes);
-    count(tally, r.kind);
+    count_agreed(tally, r.kind);
     r.state
 }
 
@@ -79,48 +75,51 @@ fn try_out(tally: &mut Tally, seed: u64, t: Table, s: State) {
     let mask = deal::mask(seed, t);
     let n = bout::some_length(seed, t.count);
     let f = deal::any_frame(part(seed, 3), t);
-    let q = bout::step_in_frame(t, f, s, mask, &bytes, n);
-    count(tally, q.kind);
-    let r = bout::step(t, s, mask, &bytes, n);
-    count(tally, r.kind);
+    let framed = bout::step(t, Some(f), s, mask, &bytes, n);
+    count_agreed(tally, framed.kind);
+    let r = bout::step(t, None, s, mask, &bytes, n);
+    count_agreed(tally, r.kind);
     block_turn(tally, part(seed, 4), t, f, s);
-    count(tally, bout::fresh(t));
-    count(tally, bout::marks(t));
-    count(tally, bout::shown(part(seed, 1), t));
-    count(tally, bout::shown_state(part(seed, 2), t, r.state));
+    count_agreed(tally, bout::fresh(t));
+    count_agreed(tally, bout::marks(t));
+    count_agreed(tally, bout::shown(part(seed, 1), t));
+    count_agreed(tally, bout::shown_state(part(seed, 2), t, r.state));
 }
 
 // A table with each kind of damage, and a state that fits the table as it was.
 fn damaged_tables(tally: &mut Tally, seed: u64, t: Table) {
-    for kind in 0..spoil::KINDS {
-        let own = part(seed, kind);
-        let u = spoil::table(own, t, kind);
+    for (k, damage) in (0..).zip(TableDamage::ALL) {
+        let own = part(seed, k);
+        let u = spoil::table(own, t, damage);
         let mut s = deal::state(own, t);
         if seldom(own, 50, 4) {
             s.clock = 1000000000;
         }
-        count(tally, report::DAMAGED_TABLE + kind);
+        count(tally, Dealt::Table(damage));
         try_out(tally, own, u, s);
     }
 }
 
 // A state with each kind of damage.
 fn damaged_states(tally: &mut Tally, seed: u64, t: Table) {
-    for kind in 0..spoil::STATE_KINDS {
-        let own = part(seed, kind);
-        let s = spoil::state(own, t, deal::state(own, t), kind);
-        count(tally, report::DAMAGED_STATE + kind);
+    for (k, damage) in (0..).zip(StateDamage::ALL) {
+        let own = part(seed, k);
+        let s = spoil::state(own, t, deal::state(own, t), damage);
+        count(tally, Dealt::State(damage));
         try_out(tally, own, t, s);
     }
 }
 
 fn play_table(tally: &mut Tally, seed: u64) {
     let t = deal::table(seed);
-    let start = scheduler::fresh(t);
+    let Ok(start) = scheduler::fresh(t) else {
+        count(tally, WRONG);
+        return;
+    };
     let f = deal::frame(part(seed, 12), t);
-    count(tally, report::TABLES);
-    run(tally, part(seed, 1), t, f, start.state, 18);
-    blocks(tally, part(seed, 13), t, f, start.state);
+    count(tally, Dealt::Legal);
+    run(tally, part(seed, 1), t, f, start, 18);
+    blocks(tally, part(seed, 13), t, f, start);
     for k in 2..6u32 {
         let own = part(seed, k);
         let s = deal::state(own, t);

@@ -38,23 +38,21 @@ fn say_answer(a: Answer) {
 
 fn say_outcome(o: Outcome) {
     match o {
-        Outcome::Chose(a) => say_answer(a),
-        Outcome::Refused(why) => {
+        Ok(a) => say_answer(a),
+        Err(why) => {
             say(b"refused ");
-            number(why as u64);
+            number(u8::from(why) as u64);
         }
     }
 }
 
 // A line: the clock before the step, the answer, and the position after it in thousandths of a degree.
 fn say_step(clock: u64, r: Driven) {
-    let o = r.outcome;
-    let a = r.actuator;
     number(clock);
     say(b" ");
-    say_outcome(o);
+    say_outcome(r.outcome);
     say(b" ");
-    signed(a.position);
+    signed(r.actuator.position);
     say(b"\n");
 }
 
@@ -66,17 +64,15 @@ fn turn(t: Table, s: State, a: Actuator, clock: u64) -> Driven {
 // Three periods, at most 0.25 degrees a step.
 pub fn tell() {
     let t = story();
-    let started = scheduler::fresh(t);
-    let mut s = started.state;
+    let Ok(mut s) = scheduler::fresh(t) else {
+        say(b"refused\n");
+        return;
+    };
     let mut a = actuator::start(0, 250, 0);
-    let mut clock: u64 = 0;
-    while clock < 30 {
+    for clock in 0..30u64 {
         let r = turn(t, s, a, clock);
         say_step(clock, r);
-        let next = r.state;
-        let moved = r.actuator;
-        s = next;
-        a = moved;
-        clock += 1;
+        s = r.state;
+        a = r.actuator;
     }
 }

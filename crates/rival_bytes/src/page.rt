@@ -15,6 +15,17 @@ impl<const N: usize> Page<N> {
         &self.bytes[..self.len.min(N)]
     }
 
+    // The place that a number stands for, if the first place comes again after the last.
+    pub fn place(&self, at: usize) -> usize
+        ensures { result < N }
+    {
+        at % N
+    }
+
+    pub fn byte(&self, at: usize) -> u8 {
+        self.bytes[self.place(at)]
+    }
+
     pub fn set(&mut self, at: usize, b: u8) {
         self.bytes[at % N] = b;
     }

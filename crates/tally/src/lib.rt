@@ -20,7 +20,21 @@ pub fn count<K: Into<u32>>(tally: &mut Tally, kind: K) {
     tally[k] = tally[k].wrapping_add(1);
 }
 
-// The kind of what both sides say, or WRONG where they do not say the same.
+// What two sides say, sorted by its kind; none where they do not say the same.
+pub fn agreed<T: PartialEq + Copy, K, Sort: FnOnce(T) -> K>(
+    ours: T,
+    theirs: T,
+    sort: Sort,
+) -> Option<K>
+    requires { Sort.IsAlwaysCallable sort }
+{
+    if ours != theirs {
+        return None;
+    }
+    Some(sort(ours))
+}
+
+// By the kind of what both sides say, or WRONG where they do not say the same.
 pub fn count_agreed<K: Into<u32>>(tally: &mut Tally, kind: Option<K>) {
     match kind {
         Some(kind) => count(tally, kind),
