@@ -19,8 +19,7 @@ use Rattle.table.specs.Threads.{fields_in}
 use Rattle.table.specs.Ranges.{within, domain_counts, thread_counts, field_range}
 use Rattle.table.specs.declared.Range.{Range}
 use Rattle.table.proofs.RangeLaws.{within_high, below_small}
-use Rattle.numeral.specs.Number.{Value}
-use Rattle.numeral.specs.Number.{number_at, encode, encode_all}
+use Rattle.numeral.specs.Number.{Value, number_at, encode, encode_all}
 use Rattle.codec.specs.Judging.{field_fault, fault, objection, wanted, Before, place}
 use Rattle.numeral.proofs.NumberLaws.{encode_all-append, encode_all-last}
 use Rattle.numeral.proofs.Runs.{Reads, reads_join, reads_split, reads_number}

@@ -23,12 +23,9 @@ use Rattle.table.specs.declared.Thread.{Thread}
 use Rattle.table.specs.declared.Table.{Table}
 use Rattle.table.proofs.RangeLaws.{within_high, field_range_by, below_small, thread_of_test, fields_in-most, unwritten_zero}
 use Rattle.table.proofs.LegalLaws.{Parts, parts_of_legal}
-use Rattle.reader.specs.Reader.{Cursor}
-use Rattle.reader.specs.Reader.{RowsRead}
-use Rattle.reader.specs.Reader.{ThreadsRead}
+use Rattle.reader.specs.Reader.{Cursor, RowsRead, ThreadsRead, good, number_from, judged, ranged, row_from, rows_from, free, field_from, fields_from, threads_from, accepted, ended, after_rows, version_from, domains_from, count_from, reading}
 use Rattle.numeral.specs.Number.{encode, encode_all}
 use Rattle.writer.specs.Format.{row_numbers, written_fields, thread_numbers, numbers, bytes}
-use Rattle.reader.specs.Reader.{good, number_from, judged, ranged, row_from, rows_from, free, field_from, fields_from, threads_from, accepted, ended, after_rows, version_from, domains_from, count_from, reading}
 use Rattle.numeral.proofs.NumberLaws.{encode_all-append, encode_all-take}
 use Rattle.numeral.proofs.Runs.{Reads, reads_number, reads_split, reads_whole}
 use Rattle.codec.proofs.FormatLaws.{rows_more, threads_more, taken-same}

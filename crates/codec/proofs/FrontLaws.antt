@@ -15,12 +15,9 @@ use Rattle.table.specs.Threads.{field_count, fields_in}
 use Rattle.table.specs.Ranges.{versions, domain_counts, thread_counts, field_range}
 use Rattle.table.specs.declared.Range.{Range}
 use Rattle.table.specs.declared.Thread.{Thread}
-use Rattle.numeral.specs.Number.{Number}
-use Rattle.numeral.specs.Number.{third, second, number, number_at}
+use Rattle.numeral.specs.Number.{Number, third, second, number, number_at}
 use Rattle.table.proofs.RangeLaws.{fields_in-most}
-use Rattle.reader.specs.Reader.{Cursor}
-use Rattle.reader.specs.Reader.{RowsRead}
-use Rattle.reader.specs.Reader.{took, good, number_from, judged, ranged, row_from, rows_from, field_from, fields_from, threads_from, ended, after_rows, version_from, domains_from, count_from, reading}
+use Rattle.reader.specs.Reader.{Cursor, RowsRead, took, good, number_from, judged, ranged, row_from, rows_from, field_from, fields_from, threads_from, ended, after_rows, version_from, domains_from, count_from, reading}
 use Rattle.reader.proofs.ReaderLaws.{ranged_le}
 
 -- So many bytes: 826.

@@ -11,9 +11,7 @@ use borrow.Author.Tests.{ltb-true, ltb-false, lt-ltb, le-ltb}
 use Rattle.basis.specs.Tests.{pick}
 use Rattle.basis.specs.Told.{Told, answered}
 use Rattle.basis.proofs.TestLaws.{by_test, refuted}
-use Rattle.numeral.specs.Number.{Number}
-use Rattle.numeral.specs.Number.{Value, Refused}
-use Rattle.numeral.specs.Number.{number_at}
+use Rattle.numeral.specs.Number.{Number, Value, Refused, number_at}
 use Rattle.numeral.proofs.RuleLaws.{number_exactly}
 use Rattle.codec.specs.Judging.{objection, wanted, Before, place, Judgment, no_number, objected, extra, all_read}
 use Rattle.codec.proofs.BeforeLaws.{before-number}

@@ -21,12 +21,8 @@ use Rattle.table.specs.Ranges.{within, versions, domain_counts, thread_counts, f
 use Rattle.table.specs.declared.Range.{Range}
 use Rattle.table.specs.declared.Thread.{Thread}
 use Rattle.table.proofs.RangeLaws.{within_low, within_high, fields_in-most, fields_in_least}
-use Rattle.reader.specs.Reader.{Cursor}
-use Rattle.reader.specs.Reader.{RowsRead}
-use Rattle.reader.specs.Reader.{FieldsRead}
-use Rattle.reader.specs.Reader.{ThreadsRead}
+use Rattle.reader.specs.Reader.{Cursor, RowsRead, FieldsRead, ThreadsRead, ranged, row_from, put_row, rows_from, free, field_from, put_field, fields_from, put_thread, threads_from, ended, whole_or_gap, after_rows, version_from, domains_from, count_from, reading}
 use Rattle.numeral.specs.Number.{encode_all}
-use Rattle.reader.specs.Reader.{ranged, row_from, put_row, rows_from, free, field_from, put_field, fields_from, put_thread, threads_from, ended, whole_or_gap, after_rows, version_from, domains_from, count_from, reading}
 use Rattle.codec.specs.Judging.{fault, row_gap, wanted, Judgment}
 use Rattle.numeral.specs.NumberRules.{Bytes}
 use Rattle.codec.proofs.BeforeLaws.{before_nil, before_counts}

@@ -13,13 +13,8 @@ use Rattle.basis.specs.Told.{Told, answered, refused}
 use Rattle.basis.proofs.TestLaws.{by_test}
 use Rattle.table.specs.declared.Range.{Range}
 use Rattle.table.specs.declared.Thread.{Thread}
-use Rattle.numeral.specs.Number.{Number}
-use Rattle.numeral.specs.Number.{Value, Refused}
-use Rattle.reader.specs.Reader.{Cursor}
-use Rattle.reader.specs.Reader.{RowsRead}
-use Rattle.reader.specs.Reader.{ThreadsRead}
-use Rattle.numeral.specs.Number.{number_at, encode, encode_all}
-use Rattle.reader.specs.Reader.{took, number_from, judged, ranged, row_from, rows_from, field_from, fields_from, ended, after_rows}
+use Rattle.numeral.specs.Number.{Number, Value, Refused, number_at, encode, encode_all}
+use Rattle.reader.specs.Reader.{Cursor, RowsRead, ThreadsRead, took, number_from, judged, ranged, row_from, rows_from, field_from, fields_from, ended, after_rows}
 use Rattle.codec.specs.Judging.{fault, row_gap, objection, wanted, Before, place, Judgment, no_number, objected, extra, all_read}
 use Rattle.numeral.specs.NumberRules.{Bytes}
 use Rattle.numeral.proofs.NumberLaws.{ToldWhy, number_why, encode_all-last}

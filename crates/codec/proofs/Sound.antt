@@ -25,15 +25,9 @@ use Rattle.table.specs.declared.Table.{Table}
 use Rattle.table.specs.declared.Thread.{Thread}
 use Rattle.table.proofs.RangeLaws.{field_range_by, fields_back, fields_in-most, fields_in_least, unwritten_ok}
 use Rattle.table.proofs.LegalLaws.{Parts, legal_of_parts}
-use Rattle.numeral.specs.Number.{Number}
-use Rattle.numeral.specs.Number.{Value, Refused}
-use Rattle.reader.specs.Reader.{Cursor}
-use Rattle.reader.specs.Reader.{RowsRead}
-use Rattle.reader.specs.Reader.{FieldsRead}
-use Rattle.reader.specs.Reader.{ThreadsRead}
-use Rattle.numeral.specs.Number.{number_at, encode, encode_all}
+use Rattle.numeral.specs.Number.{Number, Value, Refused, number_at, encode, encode_all}
+use Rattle.reader.specs.Reader.{Cursor, RowsRead, FieldsRead, ThreadsRead, good, took, number_from, judged, ranged, row_from, rows_from, free, field_from, fields_from, threads_from, Read, accepted, refused_at, whole_or_gap, ended, after_rows, version_from, domains_from, count_from, reading}
 use Rattle.writer.specs.Format.{row_numbers, written_fields, thread_numbers, numbers, bytes}
-use Rattle.reader.specs.Reader.{good, took, number_from, judged, ranged, row_from, rows_from, free, field_from, fields_from, threads_from, Read, accepted, refused_at, whole_or_gap, ended, after_rows, version_from, domains_from, count_from, reading}
 use Rattle.numeral.specs.NumberRules.{Bytes}
 use Rattle.numeral.proofs.NumberLaws.{number_why, encode_all-append, encode_all-last}
 use Rattle.numeral.proofs.Runs.{Reads, number_reads, reads_nil, reads_join}

@@ -7,9 +7,7 @@ use lib.ListN.{length, get_or, take, drop}
 use lib.Seq.{get_or-drop, take-suc}
 use lib.Dec.{eqb, ltb, leb}
 use borrow.Author.Tests.{lt-leb, lt-ltb, le-ltb, ne_eqb, ltb-true, ltb-false, leb-false, eqb-false}
-use Rattle.numeral.specs.Number.{Number}
-use Rattle.numeral.specs.Number.{Value, Refused}
-use Rattle.numeral.specs.Number.{third, second, number, number_at, encode, encode_all}
+use Rattle.numeral.specs.Number.{Number, Value, Refused, third, second, number, number_at, encode, encode_all}
 use Rattle.numeral.specs.NumberRules.{Bytes, Stands}
 use mathlib.Core.Logic.{◌≢◌}
 use mir.Val.{Fits}

@@ -14,9 +14,7 @@ use Rattle.basis.specs.declared.refusal.Refusal.{Refusal}
 use Rattle.basis.specs.declared.refusal.Refusal.TheVariants.{Intransitive}
 use Rattle.basis.proofs.RefusalLaws.{refused-apart}
 use Rattle.basis.proofs.TestLaws.{either}
-use Rattle.numeral.specs.Number.{Number}
-use Rattle.numeral.specs.Number.{Value, Refused}
-use Rattle.numeral.specs.Number.{third, second, number, number_at, given, encode}
+use Rattle.numeral.specs.Number.{Number, Value, Refused, third, second, number, number_at, given, encode}
 use Rattle.numeral.specs.declared.Numeral.{Numeral}
 use Rattle.numeral.specs.NumberRules.{of_three, NoNumber, first-missing, second-missing, third-missing, third-goes_on, second-zero, third-zero, too_large, NumberValue, one_byte, two_bytes, three-bytes, Rule, Bytes, Stands}
 use Rattle.numeral.proofs.NumberLaws.{number-encode, number_at_back}

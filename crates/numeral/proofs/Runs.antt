@@ -5,8 +5,7 @@ use mathlib.Core.List.{List, [], ◌++◌, append_assoc, append-nil}
 use native.Mathlib.Omega.{arith}
 use lib.ListN.{length, drop, length-append}
 use lib.Seq.{drop-append_seam, drop-drop, drop-length}
-use Rattle.numeral.specs.Number.{Value}
-use Rattle.numeral.specs.Number.{number_at, encode}
+use Rattle.numeral.specs.Number.{Value, number_at, encode}
 use Rattle.numeral.specs.NumberRules.{Bytes, Stands}
 use Rattle.numeral.proofs.NumberLaws.{number_at_back, number-encode}
 

@@ -1,8 +1,6 @@
 -- What stands first in a run of bytes, in document 01's words: no number, with 1, 2 or 3, or a number with its value.
 use Rattle.std.specs.Prelude.{ℕ, ◌+◌, ◌-◌, ◌*◌, ◌≤◌, ◌<◌, ◌≡◌, List, [], ◌∷◌, ◌++◌, length, get_or, drop}
-use Rattle.numeral.specs.Number.{Number}
-use Rattle.numeral.specs.Number.{Value, Refused}
-use Rattle.numeral.specs.Number.{encode}
+use Rattle.numeral.specs.Number.{Number, Value, Refused, encode}
 
 -- What the type `&[u8]` says of a list: each element is a byte.
 pub record Bytes (s : List ℕ) : Type 0 where

@@ -12,9 +12,7 @@ use Rattle.table.specs.Legal.{taken}
 use Rattle.table.specs.declared.Range.{Range}
 use Rattle.table.specs.declared.Table.{Table}
 use Rattle.table.specs.declared.Thread.{Thread}
-use Rattle.numeral.specs.Number.{Number}
-use Rattle.numeral.specs.Number.{Value, Refused}
-use Rattle.numeral.specs.Number.{number_at}
+use Rattle.numeral.specs.Number.{Number, Value, Refused, number_at}
 use Rattle.reader.specs.declared.Cursor.{Cursor as CursorInHand}
 use Rattle.reader.specs.declared.Fault.{Fault}
 
