@@ -1,6 +1,6 @@
 -- Text in a buffer: pieces put one after the other into a text of 64 bytes, and that text laid into a buffer whole or not at all.
 use Prim.Native.Nat.{ℕ, ◌+◌, ◌≤◌, ◌<◌}
-use mathlib.Core.Path.{◌≡◌, refl, ap, sym, ◌∙◌}
+use mathlib.Core.Path.{◌≡◌, ap, sym, ◌∙◌}
 use mathlib.Core.List.{List, [], ◌∷◌}
 use native.Mathlib.Omega.{arith}
 use Rattle.std.specs.Prelude.{Result}
