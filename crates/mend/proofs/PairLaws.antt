@@ -1,13 +1,13 @@
 -- The list of the pairs added, while it is filled.
 use Prim.Native.Nat.{ℕ, suc, ◌+◌, ◌≤◌, ◌<◌}
-use mathlib.Core.Path.{◌≡◌, sym, ◌∙◌}
+use mathlib.Core.Path.{◌≡◌, sym}
 use mathlib.Core.List.{List, [], ◌∷◌, ◌++◌, append-nil}
 use mathlib.Core.Bool.{true, false}
 use native.Mathlib.Decide.{le_ind}
 use native.Mathlib.Nat.{le_refl, le_trans}
 use native.Mathlib.Numerals.{add-one}
 use native.Mathlib.Omega.{arith}
-use lib.ListN.{length, set, get_or, drop, length-append, length-drop}
+use lib.ListN.{length, set, get_or, drop, length-append}
 use lib.Seq.{drop-cons, set_at, append_snoc}
 use Rattle.basis.specs.Tests.{pick}
 use Rattle.basis.proofs.TestLaws.{by_test}
@@ -39,9 +39,6 @@ module _ (rows ms : List ℕ) where
   -- Where the list has room for all, it has room for the next.
   pub room : (c n : ℕ) (l : List ℕ) → c < 256 → length (added rows ms 256) ≤ length l → n ≡ length (added rows ms c) → is_added rows ms c ≡ true → n < length l
   room c n l h k e t = omega (arith, length_hit c t, length_grows (suc c) 256 h)
-
-  pub same_long : (c n : ℕ) (l : List ℕ) → c ≤ 256 → length (added rows ms 256) ≤ length l → n ≡ length (added rows ms c) → length (added rows ms c ++ drop n l) ≡ length l
-  same_long c n l h k e = length-append (added rows ms c) (drop n l) ∙ rw (length-drop n l) (omega (arith, length_grows c 256 h))
 
   -- What stands in the list once the next is put there or passed over, and how many they are.
   pub put_next : (c n : ℕ) (l p : List ℕ) → n ≡ length (added rows ms c) → p ≡ added rows ms c ++ drop n l → n < length l → is_added rows ms c ≡ true
