@@ -1,21 +1,20 @@
 // Random frames that pass with a table, and some with one thing wrong.
-use dice::{any, any8, below, below8, between, part, seldom};
+use dice::{any, below, between, part, seldom};
 use scheduler::{Frame, Window};
-use std::num::{wrapping_add_u8, wrapping_sub_u8};
 use table::Table;
 
 // Mostly a few windows, sometimes every place taken.
 fn size(seed: u64) -> u8 {
-    match below(seed, 1, 8) {
+    match below(seed, 1, 8u16) {
         0 => 64,
-        1 => wrapping_add_u8(below8(seed, 2, 64), 1),
-        _ => wrapping_add_u8(below8(seed, 2, 6), 1),
+        1 => below(seed, 2, 64u8).wrapping_add(1),
+        _ => below(seed, 2, 6u8).wrapping_add(1),
     }
 }
 
 // The longest window of a frame: mostly short, so that a run of a few steps comes to several.
 fn longest(seed: u64) -> u16 {
-    match below(seed, 3, 8) {
+    match below(seed, 3, 8u16) {
         0 => 60000,
         1 => 200,
         2 | 3 => 3,
@@ -27,7 +26,7 @@ fn window(seed: u64, k: u8, domains: u8) -> Window {
     let own = part(seed, k as u32 + 100);
     let most = longest(seed);
     Window {
-        domain: below8(own, 4, domains),
+        domain: below(own, 4, domains),
         length: if seldom(own, 5, 8) {
             most
         } else {
@@ -45,29 +44,27 @@ fn past_the_last(seed: u64) -> Window {
         };
     }
     Window {
-        domain: any8(seed, 8) | 16,
-        length: any(seed, 9) | 61440,
+        domain: any::<u8>(seed, 8) | 16,
+        length: any::<u16>(seed, 9) | 61440,
     }
 }
 
 // A frame that passes.
 pub fn frame(seed: u64, t: Table) -> Frame {
     let count = size(seed);
-    let domains = t.domains;
-    let past = past_the_last(seed);
-    let mut windows = [past; 64];
-    for k in 0..count {
-        windows[k as usize % 64] = window(seed, k, domains);
+    let mut windows = [past_the_last(seed); 64];
+    for (k, place) in (0..count).zip(&mut windows) {
+        *place = window(seed, k, t.domains);
     }
     Frame { count, windows }
 }
 
 // The first window, the last or any between.
 fn some_place(seed: u64, count: u8) -> u8 {
-    match below(seed, 10, 4) {
+    match below(seed, 10, 4u16) {
         0 => 0,
-        1 => wrapping_sub_u8(count, 1),
-        _ => below8(seed, 11, count),
+        1 => count.wrapping_sub(1),
+        _ => below(seed, 11, count),
     }
 }
 
@@ -76,21 +73,17 @@ fn some_place(seed: u64, count: u8) -> u8 {
 pub fn any_frame(seed: u64, t: Table) -> Frame {
     let mut f = frame(seed, t);
     let k = some_place(seed, f.count);
-    let mut w = f.windows[k as usize % 64];
-    let fault = below(seed, 12, 48);
-    if fault >= 8 {
-        return f;
-    }
-    match fault {
+    let w = &mut f.windows[k as usize % 64];
+    match below(seed, 12, 48u16) {
         0 => f.count = 0,
         1 => f.count = 65,
         2 => f.count = 255,
         3 => w.domain = t.domains,
-        4 => w.domain = any8(seed, 13) | 16,
+        4 => w.domain = any::<u8>(seed, 13) | 16,
         5 => w.length = 0,
         6 => w.length = 60001,
-        _ => w.length = 65535,
+        7 => w.length = 65535,
+        _ => {}
     }
-    f.windows[k as usize % 64] = w;
     f
 }

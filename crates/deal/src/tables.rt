@@ -1,53 +1,48 @@
 // Random legal tables of both versions.
-use dice::{any, any8, below, below8, between, part, seldom};
+use dice::{any, below, between, part, seldom};
 use table::{Table, Thread};
 
 // A quarter small, a quarter with every place taken.
 fn size(seed: u64, k: u32, small: u8, most: u8) -> u8 {
-    let n = match below(seed, k, 4) {
+    let largest = match below(seed, k, 4u16) {
         0 => small,
-        1 => 0,
+        1 => return most,
         _ => most,
     };
-    if n == 0 {
-        return most;
-    }
-    std::num::wrapping_add_u8(below8(seed, k, n), 1)
+    below(seed, k, largest).wrapping_add(1)
 }
 
 // What a domain stands for, as a set. In a table that is a chain the sets lie in one another, elsewhere they are any sets of
 // the things that the table is about.
 fn stands_for(seed: u64, i: u8) -> u16 {
-    let set = any(seed, i as u32);
+    let set: u16 = any(seed, i as u32);
     if seldom(seed, 100, 4) {
-        return std::num::wrapping_sub_u16(1u16 << set % 16, 1);
+        return (1u16 << set % 16).wrapping_sub(1);
     }
-    set & any(seed, 101) & any(seed, 102)
+    set & any::<u16>(seed, 101) & any::<u16>(seed, 102)
 }
 
 // A domain flows to each that stands for the same and more, so the relation is transitive.
 fn row(seed: u64, domains: u8, i: u8) -> u16 {
     let mine = stands_for(seed, i);
-    let mut row = 0u16;
-    for j in 0..domains {
-        if mine & stands_for(seed, j) == mine {
-            row = row | 1u16 << j % 16;
-        }
+    let mut row = 0;
+    for j in (0..domains).filter(|j| mine & stands_for(seed, *j) == mine) {
+        row |= 1u16 << j % 16;
     }
     row
 }
 
 fn rows(seed: u64, domains: u8) -> [u16; 16] {
-    let mut rows = [0u16; 16];
-    for i in 0..domains {
-        rows[i as usize % 16] = row(seed, domains, i);
+    let mut rows = [0; 16];
+    for (i, place) in (0..domains).zip(&mut rows) {
+        *place = row(seed, domains, i);
     }
     rows
 }
 
 // The longest period of a table.
 fn longest(seed: u64) -> u16 {
-    match below(seed, 1, 8) {
+    match below(seed, 1, 8u16) {
         0 => 2,
         1 | 2 => 8,
         3 | 4 => 30,
@@ -69,7 +64,7 @@ fn period(seed: u64, own: u64, light: bool) -> u16 {
 
 // Mostly at most a fifth or a sixtieth of the period; seldom all of it.
 fn budget(seed: u64, own: u64, period: u16, light: bool) -> u16 {
-    let kind = if light { 1 } else { below(seed, 5, 4) };
+    let kind = if light { 1 } else { below(seed, 5, 4u16) };
     let most = match kind {
         0 => period,
         1 => period / 60,
@@ -78,12 +73,12 @@ fn budget(seed: u64, own: u64, period: u16, light: bool) -> u16 {
     if seldom(own, 4, 20) {
         return period;
     }
-    between(own, 6, 1, if most == 0 { 1 } else { most })
+    between(own, 6, 1, most.max(1))
 }
 
 // The least, the most or anything between.
 fn some(own: u64, k: u32, least: u16, most: u16) -> u16 {
-    match below(part(own, 7), k, 4) {
+    match below(part(own, 7), k, 4u16) {
         0 => least,
         1 => most,
         _ => between(own, k, least, most),
@@ -93,14 +88,14 @@ fn some(own: u64, k: u32, least: u16, most: u16) -> u16 {
 // No two threads alike: an odd distance between neighbours, modulo 256.
 fn priority(seed: u64, i: u8) -> u8 {
     let at = i as u32;
-    let place = match below(seed, 8, 5) {
+    let place = match below(seed, 8, 5u16) {
         0 => at,
         1 => at * 37,
         2 => at * 101,
         3 => at * 171,
         _ => at * 255,
     };
-    std::num::wrapping_add_u8((place % 256) as u8, any8(seed, 9)) ^ any8(seed, 10)
+    ((place % 256) as u8).wrapping_add(any(seed, 9)) ^ any::<u8>(seed, 10)
 }
 
 // Thread i, from the table's seed and its own. In version 2 one of three is released by events, and has no offset.
@@ -109,10 +104,10 @@ fn thread(seed: u64, version: u8, domains: u8, i: u8) -> Thread {
     let light = seldom(seed, 11, 4);
     let period = period(seed, own, light);
     let budget = budget(seed, own, period, light);
-    let latest = std::num::wrapping_sub_u16(period, 1);
-    let event = (version == 2) & seldom(own, 16, 3);
+    let latest = period.wrapping_sub(1);
+    let event = version == 2 && seldom(own, 16, 3);
     Thread {
-        domain: below8(own, 12, domains),
+        domain: below(own, 12, domains),
         priority: priority(seed, i),
         period,
         offset: if event { 0 } else { some(own, 13, 0, latest) },
@@ -124,10 +119,9 @@ fn thread(seed: u64, version: u8, domains: u8, i: u8) -> Thread {
 }
 
 fn threads(seed: u64, version: u8, domains: u8, count: u8) -> [Thread; 32] {
-    let none = table::no_thread();
-    let mut threads = [none; 32];
-    for i in 0..count {
-        threads[i as usize % 32] = thread(seed, version, domains, i);
+    let mut threads = [table::no_thread(); 32];
+    for (i, place) in (0..count).zip(&mut threads) {
+        *place = thread(seed, version, domains, i);
     }
     threads
 }

@@ -1,5 +1,5 @@
 // Masks of events, as sets of threads: bit i is for thread i.
-use table::Table;
+use table::{Table, Thread};
 
 // The set of thread i alone.
 pub fn only(i: u8) -> u32 {
@@ -11,17 +11,22 @@ pub fn has(set: u32, i: u8) -> bool {
     set | only(i) == set
 }
 
-// The threads of the table that events release.
-pub fn event_threads(t: Table) -> u32 {
-    let count = t.count;
-    let mut set = 0u32;
-    for i in 0..count {
-        let f = t.threads[i as usize % 32];
-        if f.kind == 1 {
-            set = set | only(i);
+// The threads of the table that pass a test.
+pub fn threads_that<Test: Fn(Thread) -> bool>(t: Table, passes: Test) -> u32
+    requires { Test.IsAlwaysCallable passes }
+{
+    let mut set = 0;
+    for (i, f) in (0..t.count).zip(t.threads) {
+        if passes(f) {
+            set |= only(i);
         }
     }
     set
+}
+
+// The threads of the table that events release.
+pub fn event_threads(t: Table) -> u32 {
+    threads_that(t, |f| f.kind == 1)
 }
 
 // Whether a mask has events of such threads only.

@@ -11,61 +11,44 @@ mod start;
 mod time;
 mod visits;
 
+use basis::Refusal;
 use events::mask_is_good;
 use fit::fits;
 use frames::{frame_is_good, threads_at};
-use rival_table::legal;
-use scheduler::{Frame, Outcome, State, Stepped};
-pub use seen::{GAP, showing, shown, threads_shown};
+use rival_table::{legal, unless};
+use scheduler::{Frame, State, Stepped};
+pub use seen::{shown, shown_state};
 pub use start::fresh;
 use table::Table;
 
-fn refused(number: u8, s: State) -> Stepped {
-    Stepped {
-        outcome: Outcome::Refused(number),
-        state: s,
+// The threads that a walk goes over without a frame.
+const ALL: u32 = 4294967295;
+
+// Refuses a step with 11, 19, 12, 13, 18, 14.
+fn judge(t: Table, frame: Option<Frame>, s: State, mask: u32, bytes: &[u8]) -> Result<(), Refusal> {
+    unless(legal(t), Refusal::NotLegal)?;
+    if let Some(f) = frame {
+        unless(frame_is_good(t, f), Refusal::Frame)?;
     }
+    unless(fits(t, s), Refusal::NotFitting)?;
+    unless(bytes.len() == t.count as usize, Refusal::StepBytes)?;
+    unless(mask_is_good(t, mask), Refusal::EventMask)?;
+    unless(s.clock < fit::END, Refusal::LastClock)
 }
 
-// One step of a legal table, with the events of a mask and a walk over a set of threads.
-fn step_among(t: Table, s: State, among: u32, mask: u32, bytes: &[u8]) -> Stepped {
-    if !fits(t, s) {
-        return refused(12, s);
+// One step with the events of a mask, in the frame if there is one.
+pub fn step(t: Table, frame: Option<Frame>, s: State, mask: u32, bytes: &[u8]) -> Stepped {
+    if let Err(why) = judge(t, frame, s, mask, bytes) {
+        return Stepped {
+            outcome: Err(why),
+            state: s,
+        };
     }
-    if bytes.len() != t.count as usize {
-        return refused(13, s);
-    }
-    if !mask_is_good(t, mask) {
-        return refused(18, s);
-    }
-    if s.clock >= fit::END {
-        return refused(14, s);
-    }
-    let end = visits::walk(t, time::release(t, s, mask), among, bytes);
-    let answer = end.answer;
-    let mut next = end.state;
-    next.clock = std::num::wrapping_add_u32(s.clock, 1);
+    let among = frame.map_or(ALL, |f| threads_at(t, f, s.clock));
+    let (answer, mut next) = visits::walk(t, time::release(t, s, mask), among, bytes);
+    next.clock = s.clock.wrapping_add(1);
     Stepped {
-        outcome: Outcome::Chose(answer),
+        outcome: Ok(answer),
         state: next,
     }
-}
-
-// One step without a frame.
-pub fn step(t: Table, s: State, mask: u32, bytes: &[u8]) -> Stepped {
-    if !legal(t) {
-        return refused(11, s);
-    }
-    step_among(t, s, frames::ALL, mask, bytes)
-}
-
-// One step in a frame.
-pub fn step_in_frame(t: Table, f: Frame, s: State, mask: u32, bytes: &[u8]) -> Stepped {
-    if !legal(t) {
-        return refused(11, s);
-    }
-    if !frame_is_good(t, f) {
-        return refused(19, s);
-    }
-    step_among(t, s, threads_at(t, f, s.clock), mask, bytes)
 }

@@ -1,67 +1,40 @@
-// What a domain is shown, in numbers.
+// What a domain is shown.
 use crate::fit::fits;
-use crate::start::nothing;
-use rival_table::{flows, legal};
+use crate::start::NOTHING;
+use basis::Refusal;
+use rival_table::{flows, legal, unless};
 use scheduler::{Answer, Progress, State};
-use table::Table;
+use table::{Table, Thread};
 
-pub const GAP: u32 = 512;
-
-// Whether i is a thread of the table and its domain may flow to this one.
-fn is_seen(t: Table, domain: u8, i: u8) -> bool {
-    let rows = t.rows;
-    let f = t.threads[i as usize % 32];
-    (i < t.count) & flows(rows, f.domain, domain)
+// Whether the domain of a thread of the table may flow to this one.
+fn is_seen(t: Table, domain: u8, f: Thread) -> bool {
+    flows(t.rows, f.domain, domain)
 }
 
-// A thread that ran, to those who may know; else a gap; 1,000 and the number of a refusal.
-pub fn shown(t: Table, domain: u8, answer: Answer) -> u32 {
-    if !legal(t) {
-        return 1011;
-    }
-    if domain >= t.domains {
-        return 1015;
-    }
-    let Answer::Ran(i) = answer else {
-        return GAP;
-    };
-    if is_seen(t, domain, i) {
-        return i as u32;
-    }
-    GAP
+// A thread that ran, to those who may know; else a gap. Refuses with 11, 15.
+pub fn shown(t: Table, domain: u8, answer: Answer) -> Result<Option<u8>, Refusal> {
+    unless(legal(t), Refusal::NotLegal)?;
+    unless(domain < t.domains, Refusal::Missing)?;
+    Ok(match answer {
+        Answer::Ran(i) if i < t.count && is_seen(t, domain, t.threads[i as usize % 32]) => Some(i),
+        _ => None,
+    })
 }
 
-// The number of a refusal, or 0.
-pub fn showing(t: Table, s: State, domain: u8) -> u32 {
-    if !legal(t) {
-        return 1011;
-    }
-    if !fits(t, s) {
-        return 1012;
-    }
-    if domain >= t.domains {
-        return 1015;
-    }
-    0
-}
-
-// Both rests, mark and count of a thread, and nothing else.
-fn open_part(p: Progress) -> Progress {
-    let mut told = p;
-    told.since = 0;
-    told
-}
-
-// That of each thread which the domain may see, and zeros for the others and on a refusal.
-pub fn threads_shown(t: Table, s: State, domain: u8) -> [Progress; 32] {
-    let refused = showing(t, s, domain) != 0;
-    let none = nothing();
-    let mut threads = [none; 32];
-    for i in 0..32u8 {
-        let p = s.threads[i as usize % 32];
-        if !refused & is_seen(t, domain, i) {
-            threads[i as usize % 32] = open_part(p);
+// Both rests, mark and count of each thread that the domain may see, and nothing else; zeros for the others. Refuses with 11, 12, 15.
+pub fn shown_state(t: Table, s: State, domain: u8) -> Result<[Progress; 32], Refusal> {
+    unless(legal(t), Refusal::NotLegal)?;
+    unless(fits(t, s), Refusal::NotFitting)?;
+    unless(domain < t.domains, Refusal::Missing)?;
+    let mut threads = [NOTHING; 32];
+    for (i, f) in (0..t.count).zip(t.threads) {
+        let place = i as usize % 32;
+        if is_seen(t, domain, f) {
+            threads[place] = Progress {
+                since: 0,
+                ..s.threads[place]
+            };
         }
     }
-    threads
+    Ok(threads)
 }

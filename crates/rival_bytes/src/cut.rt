@@ -1,36 +1,25 @@
 // The bytes cut into numbers.
+use basis::Refusal;
 
-// A number and the place behind it, or a refusal.
-#[derive(Clone, Copy)]
+// A number and how many bytes it takes.
+#[derive(Clone, Copy, Debug, PartialEq, Eq)]
 struct Number {
-    refusal: u8,
     value: u16,
-    next: usize,
+    size: usize,
 }
 
-// The numbers from the first on, each with its place, up to one that is refused: its refusal and its place stand at the count.
-#[derive(Clone, Copy)]
-pub struct Pieces {
-    pub values: [u16; 288],
-    pub places: [usize; 288],
-    pub count: usize,
-    pub refusal: u8,
+// The place of a number, and its value or why it is refused.
+#[derive(Clone, Copy, Debug, PartialEq, Eq)]
+pub struct Piece {
+    pub place: usize,
+    pub value: Result<u16, Refusal>,
 }
 
-fn byte(s: &[u8], at: usize) -> u8 {
-    if at < s.len() { s[at] } else { 0 }
-}
-
-fn refused(refusal: u8) -> Number {
-    Number {
-        refusal,
-        value: 0,
-        next: 0,
-    }
-}
+// More numbers than any table has.
+pub type Pieces = [Piece; 288];
 
 // What the seven bits of byte k of a number count for.
-fn group(b: u8, k: u8) -> u32 {
+fn group(b: u8, k: usize) -> u32 {
     let bits = (b % 128) as u32;
     match k {
         0 => bits,
@@ -40,59 +29,48 @@ fn group(b: u8, k: u8) -> u32 {
 }
 
 // A number whose last byte is byte k.
-fn ended(value: u32, k: u8, last: u8, next: usize) -> Number {
-    if (k != 0) & (last == 0) {
-        return refused(2);
+fn ended(value: u32, k: usize, last: u8) -> Result<Number, Refusal> {
+    if k != 0 && last == 0 {
+        return Err(Refusal::NotShortest);
     }
-    if value > 65535 {
-        return refused(3);
-    }
-    Number {
-        refusal: 0,
-        value: (value % 65536) as u16,
-        next,
-    }
+    let value = u16::try_from(value).map_err(|_| Refusal::TooLarge)?;
+    Ok(Number {
+        value,
+        size: k.wrapping_add(1),
+    })
 }
 
-fn number_at(s: &[u8], at: usize) -> Number {
+// The number that bytes begin with.
+fn number_in(s: &[u8]) -> Result<Number, Refusal> {
     let mut value: u32 = 0;
-    let mut next = at;
-    for k in 0..3u8 {
-        if next >= s.len() {
-            return refused(1);
-        }
-        let b = byte(s, next);
-        next = std::num::wrapping_add_usize(next, 1);
-        value = std::num::wrapping_add_u32(value, group(b, k));
-        if b < 128 {
-            return ended(value, k, b, next);
+    for (k, b) in s.iter().take(3).enumerate() {
+        value = value.wrapping_add(group(*b, k));
+        if *b < 128 {
+            return ended(value, k, *b);
         }
     }
-    refused(3)
+    Err(if s.len() < 3 {
+        Refusal::EndsEarly
+    } else {
+        Refusal::TooLarge
+    })
 }
 
+// The numbers from the first on. From one that is refused on each is that one.
 pub fn cut(s: &[u8]) -> Pieces {
-    let mut values = [0u16; 288];
-    let mut places = [0usize; 288];
-    let mut at = 0;
-    for k in 0..288usize {
-        places[k] = at;
-        let n = number_at(s, at);
-        if n.refusal != 0 {
-            return Pieces {
-                values,
-                places,
-                count: k,
-                refusal: n.refusal,
-            };
-        }
-        values[k] = n.value;
-        at = n.next;
+    let none = Piece {
+        place: 0,
+        value: Ok(0),
+    };
+    let mut pieces = [none; 288];
+    let mut place = 0;
+    for piece in &mut pieces {
+        let number = number_in(&s[s.len().min(place)..]);
+        *piece = Piece {
+            place,
+            value: number.map(|n| n.value),
+        };
+        place = place.wrapping_add(number.map_or(0, |n| n.size));
     }
-    Pieces {
-        values,
-        places,
-        count: 288,
-        refusal: 10,
-    }
+    pieces
 }

@@ -1,47 +1,34 @@
 // The form of a table in bytes, and writing it, whether the table is legal or not.
-use std::num::{wrapping_add_usize, wrapping_sub_usize};
+use crate::page::Page;
 use table::{Table, Thread};
-
-// Bytes, of which the first so many count; the others are zero.
-#[derive(Clone, Copy)]
-pub struct Page {
-    pub bytes: [u8; 900],
-    pub len: usize,
-}
 
 // Number k is a row, the first three left out, where this is below the number of domains.
 pub fn row_of(k: usize) -> usize {
-    wrapping_sub_usize(k, 3)
+    k.wrapping_sub(3)
 }
 
 // Number k is this field, counted from the first of thread 0.
 fn after_rows(t: Table, k: usize) -> usize {
-    wrapping_sub_usize(row_of(k), t.domains as usize)
+    row_of(k).wrapping_sub(t.domains as usize)
 }
 
 // A thread has seven numbers, and in version 2 its kind as the eighth.
+fn numbers_of_thread(t: Table) -> usize {
+    if t.version == 2 { 8 } else { 7 }
+}
+
 pub fn thread_of(t: Table, k: usize) -> usize {
-    if t.version == 2 {
-        return after_rows(t, k) / 8;
-    }
-    after_rows(t, k) / 7
+    after_rows(t, k).checked_div(numbers_of_thread(t)).unwrap_or(0)
 }
 
 pub fn field_of(t: Table, k: usize) -> usize {
-    if t.version == 2 {
-        return after_rows(t, k) % 8;
-    }
-    after_rows(t, k) % 7
-}
-
-// How many kinds stand in the bytes of a table.
-fn kinds(t: Table) -> usize {
-    if t.version == 2 { t.count as usize } else { 0 }
+    after_rows(t, k).checked_rem(numbers_of_thread(t)).unwrap_or(0)
 }
 
 // How many numbers a table has.
 pub fn numbers(t: Table) -> usize {
-    wrapping_add_usize(3 + t.domains as usize + 7 * t.count as usize, kinds(t))
+    let of_threads = (t.count as usize).wrapping_mul(numbers_of_thread(t));
+    of_threads.wrapping_add(3 + t.domains as usize)
 }
 
 fn field(f: Thread, k: usize) -> u16 {
@@ -91,16 +78,18 @@ fn size(v: u16) -> usize {
 }
 
 // Each number is put with three bytes, and the next over those that do not count, which are zero.
-pub fn write(t: Table) -> Page {
-    let count = numbers(t);
-    let mut bytes = [0u8; 900];
-    let mut len = 0;
-    for k in 0..count {
+pub fn write(t: Table) -> Page<900> {
+    let mut page = Page {
+        bytes: [0; 900],
+        len: 0,
+    };
+    for k in 0..numbers(t) {
         let v = value(t, k);
-        bytes[len % 900] = low(v);
-        bytes[wrapping_add_usize(len, 1) % 900] = middle(v);
-        bytes[wrapping_add_usize(len, 2) % 900] = (v / 16384) as u8;
-        len = wrapping_add_usize(len, size(v));
+        let at = page.len;
+        page.set(at, low(v));
+        page.set(at.wrapping_add(1), middle(v));
+        page.set(at.wrapping_add(2), (v / 16384) as u8);
+        page.len = at.wrapping_add(size(v));
     }
-    Page { bytes, len }
+    page
 }

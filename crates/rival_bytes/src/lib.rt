@@ -5,6 +5,8 @@
 mod cut;
 mod form;
 mod judge;
+mod page;
 
-pub use form::{Page, field_of, numbers, row_of, value, write};
-pub use judge::{Reading, fault, gap_after, no_gap, no_table, read, refused, with_number};
+pub use form::{field_of, numbers, row_of, value, write};
+pub use judge::{NO_TABLE, judge_number, judge_rows, read, with_number};
+pub use page::Page;

@@ -1,4 +1,5 @@
 // A field, character by character. A CR waits for the next character: with LF it ends the field, with any other it was part of it.
+use basis::Refusal;
 
 const COMMA: u8 = 44;
 
@@ -8,79 +9,76 @@ const LF: u8 = 10;
 
 const ZERO: u8 = 48;
 
-// The field so far: its start, whether it has a character, whether each was a digit with no zero before it, what they are worth (65,536
-// for more), and whether a CR waits.
-#[derive(Clone, Copy)]
+// The field so far: its start, what its digits are worth (65,536 for more; none where it has no character) unless it is not a number,
+// and whether a CR waits.
+#[derive(Clone, Copy, Debug, PartialEq, Eq)]
 pub struct Field {
     pub start: usize,
-    pub some: bool,
-    pub good: bool,
-    pub value: u32,
-    pub waits: bool,
-}
-
-pub fn fresh(start: usize) -> Field {
-    Field {
-        start,
-        some: false,
-        good: true,
-        value: 0,
-        waits: false,
-    }
+    number: Result<Option<u32>, Refusal>,
+    waits: bool,
 }
 
 fn larger(value: u32, digit: u8) -> u32 {
-    let v = value % 65537 * 10 + digit as u32;
-    if v > 65535 { 65536 } else { v }
+    (value % 65537 * 10 + digit as u32).min(65536)
 }
 
-fn with(f: Field, b: u8) -> Field {
-    let digit = std::num::wrapping_sub_u8(b, ZERO);
-    let padded = f.some & (f.value == 0);
-    Field {
-        start: f.start,
-        some: true,
-        good: f.good & (digit < 10) & !padded,
-        value: larger(f.value, digit),
-        waits: false,
+// With one more character: each is a digit, and no zero stands before one.
+fn with(number: Option<u32>, b: u8) -> Result<Option<u32>, Refusal> {
+    let digit = b.wrapping_sub(ZERO);
+    if digit >= 10 || number == Some(0) {
+        return Err(Refusal::NotShortest);
     }
+    Ok(Some(larger(number.unwrap_or(0), digit)))
 }
 
-// With the CR that waits.
-fn settled(f: Field) -> Field {
-    if f.waits { with(f, CR) } else { f }
-}
-
-pub fn is_crlf(f: Field, b: u8) -> bool {
-    f.waits & (b == LF)
-}
-
-pub fn ends(f: Field, b: u8) -> bool {
-    (b == COMMA) | is_crlf(f, b)
-}
-
-// The field with a character that does not end it.
-pub fn heard(f: Field, b: u8) -> Field {
-    let mut g = settled(f);
-    if b == CR {
-        g.waits = true;
-        return g;
+impl Field {
+    pub fn new(start: usize) -> Field {
+        Field {
+            start,
+            number: Ok(None),
+            waits: false,
+        }
     }
-    with(g, b)
-}
 
-// The field that a character ends.
-pub fn ended(f: Field, b: u8) -> Field {
-    if b == COMMA { settled(f) } else { f }
-}
+    fn with(self, b: u8) -> Field {
+        Field {
+            start: self.start,
+            number: self.number.and_then(|number| with(number, b)),
+            waits: false,
+        }
+    }
 
-// What is wrong with a field that has an end, or 0.
-pub fn spelling(f: Field) -> u8 {
-    if !f.some {
-        return 1;
+    // With the CR that waits.
+    fn settled(self) -> Field {
+        if self.waits { self.with(CR) } else { self }
     }
-    if !f.good {
-        return 2;
+
+    pub fn is_crlf(self, b: u8) -> bool {
+        self.waits && b == LF
     }
-    if f.value > 65535 { 3 } else { 0 }
+
+    pub fn ends(self, b: u8) -> bool {
+        b == COMMA || self.is_crlf(b)
+    }
+
+    // The field with a character that does not end it.
+    pub fn heard(self, b: u8) -> Field {
+        let mut field = self.settled();
+        if b == CR {
+            field.waits = true;
+            return field;
+        }
+        field.with(b)
+    }
+
+    // The field that a character ends.
+    pub fn ended(self, b: u8) -> Field {
+        if b == COMMA { self.settled() } else { self }
+    }
+
+    // The number of a field that has an end.
+    pub fn value(self) -> Result<u16, Refusal> {
+        let value = self.number?.ok_or(Refusal::EndsEarly)?;
+        u16::try_from(value).map_err(|_| Refusal::TooLarge)
+    }
 }

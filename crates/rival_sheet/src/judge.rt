@@ -1,85 +1,66 @@
 // A text heard from its first character to its last.
-use crate::field::{Field, ended, ends, fresh, heard, is_crlf, spelling};
+use crate::field::Field;
 use crate::form::is_last;
-use rival_bytes::{Reading, no_gap, no_table, numbers, refused};
-use std::num::{wrapping_add_usize, wrapping_sub_usize};
+use basis::Refusal;
+use reader::Fault;
+use rival_bytes::{NO_TABLE, judge_number, judge_rows, numbers, with_number};
 use table::Table;
 
-fn accepted(t: Table) -> Reading {
-    Reading {
-        refusal: 0,
-        place: 0,
-        gap: no_gap(),
-        table: t,
-    }
+// The end of number k at a place: a CRLF after the last of a line, and after no other.
+fn judge_end(t: Table, k: usize, end: usize, crlf: bool) -> Result<(), Fault> {
+    let why = match (crlf, is_last(t, k)) {
+        (true, false) => Refusal::EndsEarly,
+        (false, true) => Refusal::Extra,
+        _ => return Ok(()),
+    };
+    Err(Fault { why, place: end })
 }
 
-// Number k, well spelt, is in its range; its end is judged, and after the last row the rows.
-fn judge_end(t: Table, k: usize, start: usize, end: usize, crlf: bool) -> Reading {
-    let last = is_last(t, k);
-    if crlf & !last {
-        return refused(1, end, no_gap());
-    }
-    if !crlf & last {
-        return refused(10, end, no_gap());
-    }
-    let gap = rival_bytes::gap_after(t, k);
-    if gap.found {
-        return refused(7, start, gap);
-    }
-    accepted(t)
-}
-
-// Field f is number k of a table that has those before it, and ends at a place.
-fn judge_field(t: Table, k: usize, f: Field, end: usize, crlf: bool) -> Reading {
-    let start = f.start;
-    let why = spelling(f);
-    if why != 0 {
-        return refused(why, start, no_gap());
-    }
-    let v = (f.value % 65536) as u16;
-    let u = rival_bytes::with_number(t, k, v);
-    let fault = rival_bytes::fault(u, k, v);
-    if fault != 0 {
-        return refused(fault, start, no_gap());
-    }
-    judge_end(u, k, start, end, crlf)
+// The table with number k, which is field f and ends at a place: the number is judged, its end, and after the last row the rows.
+fn judge_field(t: Table, k: usize, f: Field, end: usize, crlf: bool) -> Result<Table, Fault> {
+    let at_start = |why: Refusal| Fault {
+        why,
+        place: f.start,
+    };
+    let v = f.value().map_err(at_start)?;
+    let u = with_number(t, k, v);
+    judge_number(u, k, v).map_err(at_start)?;
+    judge_end(u, k, end, crlf)?;
+    judge_rows(u, k).map_err(at_start)?;
+    Ok(u)
 }
 
 // The character at a place ends field f.
-fn judge_at(t: Table, k: usize, f: Field, b: u8, at: usize) -> Reading {
-    let g = ended(f, b);
-    if is_crlf(f, b) {
-        return judge_field(t, k, g, wrapping_sub_usize(at, 1), true);
-    }
-    judge_field(t, k, g, at, false)
+fn judge_at(t: Table, k: usize, f: Field, b: u8, at: usize) -> Result<Table, Fault> {
+    let crlf = f.is_crlf(b);
+    let end = if crlf { at.wrapping_sub(1) } else { at };
+    judge_field(t, k, f.ended(b), end, crlf)
 }
 
-pub fn read(s: &[u8]) -> Reading {
-    let mut t = no_table();
-    let mut wanted = numbers(t);
+pub fn read(s: &[u8]) -> Result<Table, Fault> {
+    let mut t = NO_TABLE;
     let mut k = 0usize;
-    let mut f = fresh(0);
-    for i in 0..s.len() {
-        let b = s[i];
-        if k == wanted {
-            return refused(10, i, no_gap());
+    let mut f = Field::new(0);
+    for (place, b) in s.iter().enumerate() {
+        if k == numbers(t) {
+            return Err(Fault {
+                why: Refusal::Extra,
+                place,
+            });
         }
-        if ends(f, b) {
-            let r = judge_at(t, k, f, b, i);
-            if r.refusal != 0 {
-                return r;
-            }
-            t = r.table;
-            wanted = numbers(t);
-            k = wrapping_add_usize(k, 1);
-            f = fresh(wrapping_add_usize(i, 1));
+        if f.ends(*b) {
+            t = judge_at(t, k, f, *b, place)?;
+            k = k.wrapping_add(1);
+            f = Field::new(place.wrapping_add(1));
         } else {
-            f = heard(f, b);
+            f = f.heard(*b);
         }
     }
-    if k == wanted {
-        return accepted(t);
+    if k == numbers(t) {
+        return Ok(t);
     }
-    refused(1, f.start, no_gap())
+    Err(Fault {
+        why: Refusal::EndsEarly,
+        place: f.start,
+    })
 }

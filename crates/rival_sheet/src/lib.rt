@@ -7,5 +7,5 @@ mod field;
 mod form;
 mod judge;
 
-pub use form::{Chars, Sheet, write};
+pub use form::{Sheet, write};
 pub use judge::read;

@@ -7,15 +7,19 @@ mod judge;
 mod rank;
 mod relation;
 
-pub use judge::{is_held, legal};
-pub use rank::{NOBODY, leaks, order};
-pub use relation::{Gap, first_gap, flows, row_is_good};
+use basis::Refusal;
+pub use judge::{NO_THREAD, is_held, legal};
+pub use rank::{Order, leaks, order};
+pub use relation::{first_gap, flows, row_is_good};
 use table::{Mark, Table};
 
-// The leak mark of each thread; none where the table is not legal.
-pub fn marks(t: Table) -> [Mark; 32] {
-    if !legal(t) {
-        return rank::no_marks();
-    }
-    rank::marks(t, order(t))
+// Refuses what is not good.
+pub fn unless(good: bool, why: Refusal) -> Result<(), Refusal> {
+    if good { Ok(()) } else { Err(why) }
+}
+
+// The leak mark of each thread; refuses with 11.
+pub fn marks(t: Table) -> Result<[Mark; 32], Refusal> {
+    unless(legal(t), Refusal::NotLegal)?;
+    Ok(rank::marks(t, order(t)))
 }

@@ -1,4 +1,5 @@
 // The flow relation. A row is the set of the domains that its domain may flow to.
+use flow::Gap;
 
 // The set of domain j alone.
 pub fn only(j: u8) -> u16 {
@@ -22,61 +23,28 @@ pub fn flows(rows: [u16; 16], i: u8, j: u8) -> bool {
 
 // A domain that the table lacks has no flow at all, and every other flows to itself.
 fn pair_is_good(rows: [u16; 16], domains: u8, i: u8, j: u8) -> bool {
-    if (i >= domains) | (j >= domains) {
+    if i >= domains || j >= domains {
         return !flows(rows, i, j);
     }
-    (i != j) | flows(rows, i, j)
+    i != j || flows(rows, i, j)
 }
 
 pub fn row_is_good(rows: [u16; 16], domains: u8, i: u8) -> bool {
-    for j in 0..16u8 {
-        if !pair_is_good(rows, domains, i, j) {
-            return false;
-        }
-    }
-    true
+    (0..16).all(|j| pair_is_good(rows, domains, i, j))
 }
 
 pub fn rows_are_good(rows: [u16; 16], domains: u8) -> bool {
-    for i in 0..16u8 {
-        if !row_is_good(rows, domains, i) {
-            return false;
-        }
-    }
-    true
+    (0..16).all(|i| row_is_good(rows, domains, i))
 }
 
-// The first three domains with a flow from a to b and from b to c, and none from a to c; all of it zero where there are none.
-#[derive(Clone, Copy)]
-pub struct Gap {
-    pub found: bool,
-    pub a: u8,
-    pub b: u8,
-    pub c: u8,
-}
-
-// Where a does not flow to b, no c is asked for.
-pub fn first_gap(rows: [u16; 16], domains: u8) -> Gap {
+// The first three domains with a flow from a to b and from b to c, and none from a to c. Where a does not flow to b, no c is asked for.
+pub fn first_gap(rows: [u16; 16], domains: u8) -> Option<Gap> {
     for a in 0..domains {
-        for b in 0..domains {
-            if flows(rows, a, b) {
-                for c in 0..domains {
-                    if flows(rows, b, c) & !flows(rows, a, c) {
-                        return Gap {
-                            found: true,
-                            a,
-                            b,
-                            c,
-                        };
-                    }
-                }
+        for b in (0..domains).filter(|b| flows(rows, a, *b)) {
+            if let Some(c) = (0..domains).find(|c| flows(rows, b, *c) && !flows(rows, a, *c)) {
+                return Some(Gap { a, b, c });
             }
         }
     }
-    Gap {
-        found: false,
-        a: 0,
-        b: 0,
-        c: 0,
-    }
+    None
 }

@@ -4,5 +4,5 @@
 mod pages;
 mod tables;
 
-pub use pages::bytes;
-pub use tables::{KINDS, STATE_KINDS, state, table};
+pub use pages::{ByteDamage, bytes, moved, with_byte, with_len};
+pub use tables::{StateDamage, TableDamage, state, table};

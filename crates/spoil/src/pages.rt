@@ -1,55 +1,87 @@
 // Bytes with one thing wrong.
-use dice::{any8, below, below32};
+use dice::{any, below};
 use rival_bytes::Page;
 
-// From this place on every byte moves so many places up.
-fn opened(p: Page, at: usize, by: usize) -> Page {
-    let mut bytes = p.bytes;
-    let from = p.bytes;
-    for i in 0..900usize {
-        if at < i {
-            bytes[i] = from[std::num::wrapping_sub_usize(i, by) % 900];
-        }
-    }
-    Page {
-        bytes,
-        len: std::num::wrapping_add_usize(p.len, by),
-    }
+// What is wrong with bytes.
+#[derive(Clone, Copy, Debug, PartialEq, Eq)]
+pub enum ByteDamage {
+    Nothing,
+    AnyValue,
+    OneMore,
+    OneLess,
+    TopBit,
+    Cut,
+    // more bytes behind the last
+    Behind,
+    // a number in a longer form
+    Longer,
+    TooLarge,
+    // a number too large in its third byte
+    ThirdByte,
 }
 
-fn with_byte(p: Page, at: usize, b: u8) -> Page {
-    let mut bytes = p.bytes;
-    bytes[at % 900] = b;
-    Page { bytes, len: p.len }
+impl ByteDamage {
+    pub const ALL: [ByteDamage; 10] = [
+        ByteDamage::Nothing,
+        ByteDamage::AnyValue,
+        ByteDamage::OneMore,
+        ByteDamage::OneLess,
+        ByteDamage::TopBit,
+        ByteDamage::Cut,
+        ByteDamage::Behind,
+        ByteDamage::Longer,
+        ByteDamage::TooLarge,
+        ByteDamage::ThirdByte,
+    ];
+}
+
+// From a place on so many bytes are left out, and room is made for so many others.
+pub fn moved<const N: usize>(p: Page<N>, at: usize, out: usize, room: usize) -> Page<N> {
+    let mut q = p;
+    for i in at..N {
+        q.set(i, p.byte(i.wrapping_add(out).wrapping_sub(room)));
+    }
+    q.len = p.len.wrapping_add(room).wrapping_sub(out);
+    q
+}
+
+pub fn with_byte<const N: usize>(p: Page<N>, at: usize, b: u8) -> Page<N> {
+    let mut q = p;
+    q.set(at, b);
+    q
+}
+
+// The first so many bytes; with more of them those behind the last count too.
+pub fn with_len<const N: usize>(p: Page<N>, len: usize) -> Page<N> {
+    let mut q = p;
+    q.len = len;
+    q
 }
 
 // A number that is too large: a third byte that says that another follows, or a value above 65,535.
-fn huge(p: Page, at: usize, last: u8) -> Page {
-    let q = opened(p, at, 2);
-    let r = with_byte(q, at, 255);
-    let s = with_byte(r, at % 800 + 1, 255);
-    with_byte(s, at % 800 + 2, last)
+fn huge(p: Page<900>, at: usize, last: u8) -> Page<900> {
+    let mut q = moved(p, at, 0, 2);
+    q.set(at, 255);
+    q.set(at % 800 + 1, 255);
+    q.set(at % 800 + 2, last);
+    q
 }
 
-// Bytes of kind: 0 nothing wrong, 1 a byte of any value, 2 one more, 3 one less, 4 its top bit turned, 5 cut, 6 more behind the
-// last, 7 a number in a longer form, 8 a number too large, 9 in its third byte.
-pub fn bytes(seed: u64, p: Page, kind: u16) -> Page {
-    let at = below32(seed, 1, (p.len % 900) as u32) as usize % 800;
-    let bytes = p.bytes;
-    let b = bytes[at];
-    match kind {
-        0 => p,
-        1 => with_byte(p, at, any8(seed, 2)),
-        2 => with_byte(p, at, std::num::wrapping_add_u8(b, 1)),
-        3 => with_byte(p, at, std::num::wrapping_sub_u8(b, 1)),
-        4 => with_byte(p, at, b ^ 128),
-        5 => Page { bytes, len: at },
-        6 => Page {
-            bytes,
-            len: std::num::wrapping_add_usize(p.len, 1 + below(seed, 3, 3) as usize),
-        },
-        7 => with_byte(with_byte(opened(p, at, 1), at, b | 128), at + 1, 0),
-        8 => huge(p, at, 4),
-        _ => huge(p, at, 132),
+pub fn bytes(seed: u64, p: Page<900>, damage: ByteDamage) -> Page<900> {
+    let at = below(seed, 1, (p.len % 900) as u32) as usize % 800;
+    let b = p.byte(at);
+    match damage {
+        ByteDamage::Nothing => p,
+        ByteDamage::AnyValue => with_byte(p, at, any(seed, 2)),
+        ByteDamage::OneMore => with_byte(p, at, b.wrapping_add(1)),
+        ByteDamage::OneLess => with_byte(p, at, b.wrapping_sub(1)),
+        ByteDamage::TopBit => with_byte(p, at, b ^ 128),
+        ByteDamage::Cut => with_len(p, at),
+        ByteDamage::Behind => {
+            with_len(p, p.len.wrapping_add(1 + below(seed, 3, 3u16) as usize))
+        }
+        ByteDamage::Longer => with_byte(with_byte(moved(p, at, 0, 1), at, b | 128), at + 1, 0),
+        ByteDamage::TooLarge => huge(p, at, 4),
+        ByteDamage::ThirdByte => huge(p, at, 132),
     }
 }
