@@ -1,4 +1,5 @@
 // What is printed.
+
 pub fn say(text: &[u8]) {
     io::write_all(1, text);
 }
