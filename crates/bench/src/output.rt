@@ -43,7 +43,7 @@ pub fn say_threads(rt: &(impl Print + Eprint), out: &mut [u8], threads: u8) -> b
 
 pub fn say_refused(rt: &(impl Print + Eprint), why: Refusal, place: u64) {
     let mut out = [0u8; 64];
-    let p = report::print_refused(&mut out, 0, why, place);
+    let p = report::print_refused(&mut out, 0, u8::from(why), place);
     say_printed(rt, &out, p);
 }
 
@@ -54,7 +54,7 @@ fn put_last(out: &mut [u8], at: usize, why: Option<Refusal>, clock: u32) -> Resu
 {
     match why {
         None => report::print_end(out, at, clock),
-        Some(why) => report::print_refused(out, at, why, clock as u64),
+        Some(why) => report::print_refused(out, at, u8::from(why), clock as u64),
     }
 }
 

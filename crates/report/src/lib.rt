@@ -2,7 +2,6 @@
 #![tactic(auto)]
 
 ghost use Rattle.std.specs.Prelude.{◌≡◌, ◌+◌, ◌*◌, ◌≤◌, length};
-ghost use Rattle.basis.specs.Refusals.{number};
 ghost use Rattle.writer.specs.Buffer.{Put};
 ghost use Rattle.report.specs.Lines.{threads_line, trace_lines, end_line, refused_line};
 ghost use Rattle.report.specs.Printing.{told, printing, printed};
@@ -42,12 +41,12 @@ pub fn print_end(buf: &mut [u8], at: usize, steps: u32) -> Result<usize, Refusal
 }
 
 // A refusal's number, and the place in the table's bytes or the clock.
-pub fn print_refused(buf: &mut [u8], at: usize, why: Refusal, place: u64) -> Result<usize, Refusal>
-    ensures { (told result ≡ printing buf.old at (refused_line (number why) place)) × (buf.new ≡ printed buf.old at (refused_line (number why) place)) }
+pub fn print_refused(buf: &mut [u8], at: usize, number: u8, place: u64) -> Result<usize, Refusal>
+    ensures { (told result ≡ printing buf.old at (refused_line number place)) × (buf.new ≡ printed buf.old at (refused_line number place)) }
 {
     let mut text = [0u8; 64];
     let a = put(&mut text, 0, b"refused ");
-    let b = put_number(&mut text, a, u8::from(why) as u64);
+    let b = put_number(&mut text, a, number as u64);
     let c = put(&mut text, b, b" ");
     let d = put_number(&mut text, c, place);
     let e = put(&mut text, d, b"\n");
