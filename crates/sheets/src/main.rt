@@ -3,39 +3,43 @@
 #![tactic(auto)]
 
 mod damage;
-mod read;
-mod write;
 
-use dice::{below32, part, seldom};
+use bout_bytes::Kind;
+use damage::TextDamage;
+use dice::{part, seldom};
+use spoil::TableDamage;
 use table::Table;
-use tally::{Tally, WRONG, count, line};
+use tally::{Tally, WRONG, count_agreed, line};
 
 // The text of a table, of which something may be wrong, and its text's damage.
-fn read_one(tally: &mut Tally, seed: u64, t: Table, kind: u32) {
-    let whole = rival_sheet::write(t);
-    let spoiled = damage::text(seed, whole, kind);
-    let chars = spoiled.chars;
-    count(tally, read::read(&chars, spoiled.len));
+fn read_one(tally: &mut Tally, seed: u64, t: Table, damage: TextDamage) {
+    let spoiled = damage::text(seed, rival_sheet::write(t), damage);
+    let s = spoiled.text();
+    count_agreed(tally, bout_bytes::read(sheet::read(s), rival_sheet::read(s)));
+}
+
+fn write_one(tally: &mut Tally, seed: u64, t: Table) {
+    count_agreed(tally, bout_bytes::write(seed, t, rival_sheet::write(t), sheet::write));
 }
 
 fn play_table(tally: &mut Tally, seed: u64) {
     let t = deal::table(seed);
-    count(tally, write::write(part(seed, 1), t));
-    for kind in 0..damage::KINDS {
-        let own = part(seed, kind + 10);
-        let bad = spoil::table(own, t, below32(own, 4, spoil::KINDS));
-        read_one(tally, own, t, kind);
+    write_one(tally, part(seed, 1), t);
+    for (k, damage) in (10..).zip(TextDamage::ALL) {
+        let own = part(seed, k);
+        let bad = spoil::table(own, t, TableDamage::any(own, 4));
+        read_one(tally, own, t, damage);
         if seldom(own, 5, 2) {
-            read_one(tally, own, bad, 0);
+            read_one(tally, own, bad, TextDamage::Nothing);
         } else {
-            read_one(tally, own, bad, kind);
-            count(tally, write::write(own, bad));
+            read_one(tally, own, bad, damage);
+            write_one(tally, own, bad);
         }
     }
 }
 
 fn report_reads(tally: &Tally) {
-    line(tally, 0, b" texts read\n");
+    line(tally, Kind::Read, b" texts read\n");
     for why in 1..11u32 {
         line(tally, why, b" refused with ");
         io::print_decimal(1, why as u64);
@@ -44,14 +48,14 @@ fn report_reads(tally: &Tally) {
 }
 
 fn report(tally: &Tally) {
-    line(tally, bout_bytes::WRITTEN, b" texts written\n");
-    line(tally, bout_bytes::NOT_LEGAL, b" refused with 11\n");
-    line(tally, bout_bytes::NO_ROOM, b" refused with 16\n");
+    line(tally, Kind::Written, b" texts written\n");
+    line(tally, Kind::NotLegal, b" refused with 11\n");
+    line(tally, Kind::NoRoom, b" refused with 16\n");
     line(tally, WRONG, b" disagreements\n");
 }
 
 fn main() {
-    let mut tally = [0u32; 64];
+    let mut tally = [0; 64];
     for k in 0..1000u32 {
         play_table(&mut tally, part(11, k));
     }

@@ -4,10 +4,14 @@
 
 mod busy;
 mod count;
+mod kind;
 
-use count::Tally;
+use count::Counts;
 use dice::{part, seldom};
+pub use kind::Kind;
+use spoil::TableDamage;
 use table::{Table, Thread};
+use tally::{WRONG, line};
 
 // Every other table is a busy one.
 fn table(seed: u64) -> Table {
@@ -19,27 +23,19 @@ fn table(seed: u64) -> Table {
 }
 
 // Every eighth table is damaged, and few of the long ones are searched.
-fn play(y: Tally, seed: u64) -> Tally {
+fn play(counts: &mut Counts, seed: u64) {
     let t = table(seed);
     if seldom(seed, 1, 8) {
-        return count::table(
-            y,
-            spoil::table(part(seed, 3), t, dice::below32(seed, 2, spoil::KINDS)),
-        );
+        let damage = TableDamage::any(seed, 2);
+        count::table(counts, spoil::table(part(seed, 3), t, damage));
+    } else if !rival_bounds::is_long(t) || seldom(seed, 4, 24) {
+        count::table(counts, t);
     }
-    if rival_bounds::is_long(t) & !seldom(seed, 4, 24) {
-        return y;
-    }
-    count::table(y, t)
 }
 
 // Thread 0 takes the whole processor, so that thread 1's search goes through every length.
 fn slowest() -> Table {
-    let none = table::no_thread();
-    let mut rows = [0u16; 16];
-    rows[0] = 1;
-    let mut threads = [none; 32];
-    let mut f = Thread {
+    let first = Thread {
         domain: 0,
         priority: 1,
         period: 1,
@@ -49,11 +45,16 @@ fn slowest() -> Table {
         blocking: 0,
         kind: 0,
     };
-    threads[0] = f;
-    f.period = 60000;
-    f.deadline = 60000;
-    f.priority = 0;
-    threads[1] = f;
+    let mut rows = [0; 16];
+    rows[0] = 1;
+    let mut threads = [table::no_thread(); 32];
+    threads[0] = first;
+    threads[1] = Thread {
+        priority: 0,
+        period: 60000,
+        deadline: 60000,
+        ..first
+    };
     Table {
         version: 1,
         domains: 1,
@@ -63,29 +64,33 @@ fn slowest() -> Table {
     }
 }
 
-fn say(n: u32, what: &[u8]) {
+fn say(n: u16, what: &[u8]) {
     io::print_decimal(1, n as u64);
     io::write_all(1, what);
 }
 
-fn report(y: Tally) {
-    say(y.admitted, b" tables admitted\n");
-    say(y.without, b" not admitted\n");
-    say(y.refused, b" refused\n");
-    say(y.found, b" bounds found\n");
-    say(y.none, b" threads without a bound\n");
-    say(y.no_thread, b" threads that the table lacks\n");
-    say(y.prohibited, b" prohibition times above 0\n");
-    say(y.worst, b" demands at most for one thread\n");
+fn report(counts: &Counts) {
+    let tally = &counts.tally;
+    line(tally, Kind::Admitted, b" tables admitted\n");
+    line(tally, Kind::Without, b" not admitted\n");
+    line(tally, Kind::Refused, b" refused\n");
+    line(tally, Kind::Bound, b" bounds found\n");
+    line(tally, Kind::NoBound, b" threads without a bound\n");
+    line(tally, Kind::NoThread, b" threads that the table lacks\n");
+    line(tally, Kind::Prohibited, b" prohibition times above 0\n");
+    say(counts.worst, b" demands at most for one thread\n");
 }
 
 fn main() {
-    let mut y = count::none_yet();
+    let mut counts = Counts {
+        tally: [0; 64],
+        worst: 0,
+    };
     for n in 0..5200u32 {
-        y = play(y, part(2, n));
+        play(&mut counts, part(2, n));
     }
-    report(y);
-    let z = count::table(y, slowest());
-    say(z.worst, b" demands for the thread made to be slowest\n");
-    say(z.wrong, b" disagreements\n");
+    report(&counts);
+    count::table(&mut counts, slowest());
+    say(counts.worst, b" demands for the thread made to be slowest\n");
+    line(&counts.tally, WRONG, b" disagreements\n");
 }
