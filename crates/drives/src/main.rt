@@ -204,7 +204,11 @@ fn round(tally: &mut Tally, t: Table, g: Game, seed: u64) -> Game {
         state: g.state,
         actuator: g.actuator,
         mask: mask(t.version, seed),
-        bytes: if t.count == 2 { &bytes[..2] } else { &bytes[..3] },
+        bytes: if t.count == 2 {
+            &bytes[..2]
+        } else {
+            &bytes[..3]
+        },
         command: command(seed),
     };
     if let Some(c) = harmed(seed, whole, &bytes) {
@@ -234,15 +238,47 @@ fn play(tally: &mut Tally, seed: u64) {
 }
 
 fn report(tally: &Tally) {
-    line(tally, Kind::Moved, b" drives moved, as a second actuator does\n");
+    line(
+        tally,
+        Kind::Moved,
+        b" drives moved, as a second actuator does\n",
+    );
     line(tally, Kind::Heard, b" took a command\n");
-    line(tally, Kind::Refused(Refusal::NotLegal), b" refused with 11\n");
-    line(tally, Kind::Refused(Refusal::NotFitting), b" refused with 12\n");
-    line(tally, Kind::Refused(Refusal::StepBytes), b" refused with 13\n");
-    line(tally, Kind::Refused(Refusal::LastClock), b" refused with 14\n");
-    line(tally, Kind::Refused(Refusal::Missing), b" refused with 15\n");
-    line(tally, Kind::Refused(Refusal::EventMask), b" refused with 18\n");
-    line(tally, Kind::Refused(Refusal::Actuator), b" refused with 20\n");
+    line(
+        tally,
+        Kind::Refused(Refusal::NotLegal),
+        b" refused with 11\n",
+    );
+    line(
+        tally,
+        Kind::Refused(Refusal::NotFitting),
+        b" refused with 12\n",
+    );
+    line(
+        tally,
+        Kind::Refused(Refusal::StepBytes),
+        b" refused with 13\n",
+    );
+    line(
+        tally,
+        Kind::Refused(Refusal::LastClock),
+        b" refused with 14\n",
+    );
+    line(
+        tally,
+        Kind::Refused(Refusal::Missing),
+        b" refused with 15\n",
+    );
+    line(
+        tally,
+        Kind::Refused(Refusal::EventMask),
+        b" refused with 18\n",
+    );
+    line(
+        tally,
+        Kind::Refused(Refusal::Actuator),
+        b" refused with 20\n",
+    );
     line(tally, WRONG, b" disagreements\n");
 }
 

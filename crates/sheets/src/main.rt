@@ -15,7 +15,10 @@ use tally::{Tally, WRONG, count_agreed, line};
 fn read_one(tally: &mut Tally, seed: u64, t: Table, damage: TextDamage) {
     let sheet = damage::text(seed, rival_sheet::write(t), damage);
     let text = sheet.text();
-    count_agreed(tally, bout_bytes::read(sheet::read(text), rival_sheet::read(text)));
+    count_agreed(
+        tally,
+        bout_bytes::read(sheet::read(text), rival_sheet::read(text)),
+    );
 }
 
 fn write_one(tally: &mut Tally, seed: u64, t: Table) {

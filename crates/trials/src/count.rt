@@ -99,7 +99,10 @@ fn thread(y: &mut Counts, t: Table, i: u8) {
 // All counts of an admission together.
 fn together(theirs: Result<Admission, Refusal>) -> u32 {
     theirs.map_or(0, |admission| {
-        admission.tried.iter().fold(0u32, |sum, tried| sum.wrapping_add(*tried as u32))
+        admission
+            .tried
+            .iter()
+            .fold(0u32, |sum, tried| sum.wrapping_add(*tried as u32))
     })
 }
 
