@@ -60,7 +60,10 @@ fn judge(b: Block) -> Result<(), Refusal> {
         unless(why == Refusal::StepBytes, why)?;
     }
     let steps = b.masks.len();
-    unless(b.bytes.len() == wanted(steps, b.table.count), Refusal::StepBytes)?;
+    unless(
+        b.bytes.len() == wanted(steps, b.table.count),
+        Refusal::StepBytes,
+    )?;
     unless(!has_bad_mask(b), Refusal::EventMask)?;
     let clock = b.state.clock as usize;
     unless(clock.wrapping_add(steps) <= 1000000000, Refusal::LastClock)?;

@@ -32,14 +32,7 @@ fn ours(t: Table, frame: Option<Frame>, s: State, mask: u32, bytes: &[u8]) -> St
 
 // A step with the events of a mask on the first n bytes, in the frame if there is one. A refused one hands back the state that it was
 // given.
-pub fn step(
-    t: Table,
-    frame: Option<Frame>,
-    s: State,
-    mask: u32,
-    all: &[u8],
-    n: u8,
-) -> Played {
+pub fn step(t: Table, frame: Option<Frame>, s: State, mask: u32, all: &[u8], n: u8) -> Played {
     let bytes = &all[..all.len().min(n as usize)];
     let got = ours(t, frame, s, mask, bytes);
     let unmoved = got.outcome.is_ok() || got.state == s;
@@ -65,7 +58,11 @@ pub fn event(f: Thread, p: Progress, mask: u32, i: u8) -> Option<Kind> {
 // The state before the first step.
 pub fn fresh(t: Table) -> Option<Kind> {
     agreed(scheduler::fresh(t), rival::fresh(t), |fresh| {
-        if fresh.is_ok() { Kind::Started } else { Kind::Unstarted }
+        if fresh.is_ok() {
+            Kind::Started
+        } else {
+            Kind::Unstarted
+        }
     })
 }
 

@@ -28,16 +28,28 @@ fn some_answer(seed: u64, t: Table) -> Answer {
 pub fn shown(seed: u64, t: Table) -> Option<Kind> {
     let domain = some_domain(seed, t);
     let a = some_answer(seed, t);
-    agreed(sight::shown(t, domain, a), rival::shown(t, domain, a), |view| match view {
-        Ok(Some(_)) => Kind::Seen,
-        Ok(None) => Kind::Gap,
-        Err(_) => Kind::Unshown,
-    })
+    agreed(
+        sight::shown(t, domain, a),
+        rival::shown(t, domain, a),
+        |view| match view {
+            Ok(Some(_)) => Kind::Seen,
+            Ok(None) => Kind::Gap,
+            Err(_) => Kind::Unshown,
+        },
+    )
 }
 
 pub fn shown_state(seed: u64, t: Table, s: State) -> Option<Kind> {
     let domain = some_domain(seed, t);
-    agreed(sight::shown_state(t, s, domain), rival::shown_state(t, s, domain), |threads| {
-        if threads.is_ok() { Kind::Shown } else { Kind::Unshown }
-    })
+    agreed(
+        sight::shown_state(t, s, domain),
+        rival::shown_state(t, s, domain),
+        |threads| {
+            if threads.is_ok() {
+                Kind::Shown
+            } else {
+                Kind::Unshown
+            }
+        },
+    )
 }

@@ -10,11 +10,7 @@ use tally::agreed;
 type Found = Result<Option<u16>, Refusal>;
 
 // What a thread of the table that is read has; refuses with the reader's number, then 15.
-fn find<Find: Fn(Table, u8) -> Found>(
-    read: Result<Table, Fault>,
-    thread: u32,
-    find: Find,
-) -> Found
+fn find<Find: Fn(Table, u8) -> Found>(read: Result<Table, Fault>, thread: u32, find: Find) -> Found
     requires { Find.IsAlwaysCallable find }
 {
     let t = read.map_err(|fault| fault.why)?;

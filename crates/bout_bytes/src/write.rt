@@ -22,7 +22,11 @@ fn wanted(t: Table, len: usize, room: usize, at: usize) -> Result<usize, Refusal
 fn is_there<const N: usize>(buf: &[u8], page: Page<N>, from: usize, to: usize) -> bool {
     buf.iter().enumerate().all(|(i, b)| {
         let inside = from <= i && i < to;
-        *b == if inside { page.byte(i.wrapping_sub(from)) } else { BEFORE }
+        *b == if inside {
+            page.byte(i.wrapping_sub(from))
+        } else {
+            BEFORE
+        }
     })
 }
 
@@ -49,9 +53,13 @@ pub fn write<const N: usize, Write: Fn(Table, &mut [u8], usize) -> Result<usize,
     if !is_there(&buf, page, at, ours.unwrap_or(0)) {
         return None;
     }
-    agreed(ours, wanted(t, page.len, room, at), |written| match written {
-        Ok(_) => Kind::Written,
-        Err(Refusal::NotLegal) => Kind::NotLegal,
-        Err(_) => Kind::NoRoom,
-    })
+    agreed(
+        ours,
+        wanted(t, page.len, room, at),
+        |written| match written {
+            Ok(_) => Kind::Written,
+            Err(Refusal::NotLegal) => Kind::NotLegal,
+            Err(_) => Kind::NoRoom,
+        },
+    )
 }

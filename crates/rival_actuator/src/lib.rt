@@ -73,7 +73,10 @@ fn has_moved(b: Actuator, c: Call, n: Answer) -> bool {
     let a = c.actuator;
     let to = target(c, n);
     let at = creep(height(a.position as i64), to, a.rate);
-    b.rate == a.rate && b.thread == a.thread && stands_at(b.position, at) && stands_at(b.command, to)
+    b.rate == a.rate
+        && b.thread == a.thread
+        && stands_at(b.position, at)
+        && stands_at(b.command, to)
 }
 
 // Whether a drive is refused for this, and hands back what it was given.

@@ -18,11 +18,15 @@ fn numbers_of_thread(t: Table) -> usize {
 }
 
 pub fn thread_of(t: Table, k: usize) -> usize {
-    after_rows(t, k).checked_div(numbers_of_thread(t)).unwrap_or(0)
+    after_rows(t, k)
+        .checked_div(numbers_of_thread(t))
+        .unwrap_or(0)
 }
 
 pub fn field_of(t: Table, k: usize) -> usize {
-    after_rows(t, k).checked_rem(numbers_of_thread(t)).unwrap_or(0)
+    after_rows(t, k)
+        .checked_rem(numbers_of_thread(t))
+        .unwrap_or(0)
 }
 
 // How many numbers a table has.

@@ -19,13 +19,7 @@ pub fn is_last(t: Table, k: usize) -> bool {
 
 // From the largest power of ten down, with no zero before the first other digit; the last is put in any case.
 fn put_number(sheet: &mut Sheet, v: u16) {
-    let digits = [
-        v / 10000,
-        v / 1000 % 10,
-        v / 100 % 10,
-        v / 10 % 10,
-        v % 10,
-    ];
+    let digits = [v / 10000, v / 1000 % 10, v / 100 % 10, v / 10 % 10, v % 10];
     let first = digits.iter().position(|d| *d != 0).unwrap_or(4);
     for d in digits.iter().skip(first) {
         sheet.push(48 + (d % 10) as u8);

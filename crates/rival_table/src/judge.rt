@@ -44,7 +44,10 @@ fn place_is_good(t: Table, i: usize, f: Thread) -> bool {
 }
 
 fn places_are_good(t: Table) -> bool {
-    t.threads.iter().enumerate().all(|(i, f)| place_is_good(t, i, *f))
+    t.threads
+        .iter()
+        .enumerate()
+        .all(|(i, f)| place_is_good(t, i, *f))
 }
 
 // Version 1 or 2, 1 to 16 domains, 1 to 32 threads.

@@ -77,9 +77,7 @@ pub fn bytes(seed: u64, p: Page<900>, damage: ByteDamage) -> Page<900> {
         ByteDamage::OneLess => with_byte(p, at, b.wrapping_sub(1)),
         ByteDamage::TopBit => with_byte(p, at, b ^ 128),
         ByteDamage::Cut => with_len(p, at),
-        ByteDamage::Behind => {
-            with_len(p, p.len.wrapping_add(1 + below(seed, 3, 3u16) as usize))
-        }
+        ByteDamage::Behind => { with_len(p, p.len.wrapping_add(1 + below(seed, 3, 3u16) as usize)) }
         ByteDamage::Longer => with_byte(with_byte(moved(p, at, 0, 1), at, b | 128), at + 1, 0),
         ByteDamage::TooLarge => huge(p, at, 4),
         ByteDamage::ThirdByte => huge(p, at, 132),

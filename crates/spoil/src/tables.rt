@@ -223,7 +223,11 @@ pub fn state(seed: u64, t: Table, s: State, damage: StateDamage) -> State {
             let share = f.budget.wrapping_sub(f.blocking);
             p.execution = if much { 65535 } else { share.wrapping_add(1) };
         } else {
-            p.rest = if much { 65535 } else { f.budget.wrapping_add(1) };
+            p.rest = if much {
+                65535
+            } else {
+                f.budget.wrapping_add(1)
+            };
         },
         StateDamage::Count => p.ran = if much {
             4294967295
