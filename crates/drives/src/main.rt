@@ -142,11 +142,7 @@ fn round(tally: &mut Tally, t: Table, g: Game, seed: u64) -> Game {
         state: g.state,
         actuator: g.actuator,
         mask: mask(t.version, seed),
-        bytes: if t.count == 2 {
-            &bytes[..2]
-        } else {
-            &bytes[..3]
-        },
+        bytes: if t.count == 2 { &bytes[..2] } else { &bytes[..3] },
         command: command(seed),
     };
     match Harm::any(seed) {
@@ -184,55 +180,13 @@ const REFUSALS: [Refusal; 7] = [
 ];
 
 fn report(tally: &Tally) {
-    line(
-        tally,
-        Kind::Moved,
-        b" drives moved, as a second actuator does\n",
-    );
+    line(tally, Kind::Moved, b" drives moved, as a second actuator does\n");
     line(tally, Kind::Heard, b" took a command\n");
-<<<<<<< HEAD
     for why in REFUSALS {
         line(tally, Kind::Refused(why), b" refused with ");
         io::print_decimal(1, u8::from(why) as u64);
         io::write_all(1, b"\n");
     }
-=======
-    line(
-        tally,
-        Kind::Refused(Refusal::NotLegal),
-        b" refused with 11\n",
-    );
-    line(
-        tally,
-        Kind::Refused(Refusal::NotFitting),
-        b" refused with 12\n",
-    );
-    line(
-        tally,
-        Kind::Refused(Refusal::StepBytes),
-        b" refused with 13\n",
-    );
-    line(
-        tally,
-        Kind::Refused(Refusal::LastClock),
-        b" refused with 14\n",
-    );
-    line(
-        tally,
-        Kind::Refused(Refusal::Missing),
-        b" refused with 15\n",
-    );
-    line(
-        tally,
-        Kind::Refused(Refusal::EventMask),
-        b" refused with 18\n",
-    );
-    line(
-        tally,
-        Kind::Refused(Refusal::Actuator),
-        b" refused with 20\n",
-    );
->>>>>>> b51df2afbe9419cb1c0028b148e8a3c37dbd26c7
     line(tally, WRONG, b" disagreements\n");
 }
 

@@ -123,10 +123,7 @@ pub fn text(seed: u64, p: Sheet, damage: TextDamage) -> Sheet {
         TextDamage::Cut => with_len(p, at),
         TextDamage::LastDropped => with_len(p, p.len.wrapping_sub(few)),
         TextDamage::Behind => {
-            with_len(
-                with_byte(p, p.len, some_char(seed)),
-                p.len.wrapping_add(few),
-            )
+            with_len(with_byte(p, p.len, some_char(seed)), p.len.wrapping_add(few))
         }
         TextDamage::EndForComma => with_crlf(moved(p, comma, 0, 1), comma),
     }

@@ -13,18 +13,9 @@ use tally::{Tally, WRONG, count_agreed, line};
 
 // The text of a table, of which something may be wrong, and its text's damage.
 fn read_one(tally: &mut Tally, seed: u64, t: Table, damage: TextDamage) {
-<<<<<<< HEAD
     let spoiled = damage::text(seed, rival_sheet::write(t), damage);
     let s = spoiled.text();
     count_agreed(tally, bout_bytes::read(sheet::read(s), rival_sheet::read(s)));
-=======
-    let sheet = damage::text(seed, rival_sheet::write(t), damage);
-    let text = sheet.text();
-    count_agreed(
-        tally,
-        bout_bytes::read(sheet::read(text), rival_sheet::read(text)),
-    );
->>>>>>> b51df2afbe9419cb1c0028b148e8a3c37dbd26c7
 }
 
 fn write_one(tally: &mut Tally, seed: u64, t: Table) {
