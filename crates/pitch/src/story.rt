@@ -2,38 +2,47 @@
 // or waits, the pitch loop runs at 4, 5 and 6, and below it the actuator model.
 use super::text::{number, say, signed};
 use actuator::{Actuator, Driven};
-use basis::Refusal;
 use example::story;
 use scheduler::{Answer, Outcome, State};
 use table::Table;
 
 // The monitor runs at the first step of a period, and then waits.
 fn monitor_sends(clock: u64) -> u8 {
-    if clock % 10 == 0 { 1 } else { 0 }
+    if clock % 10 == 0 {
+        return 1;
+    }
+    0
 }
 
 // In the first period 10 degrees are wanted; then -20, which is drawn to -5.
 fn wanted(clock: u64) -> i64 {
-    if clock < 10 { 10000 } else { -20000 }
+    if clock < 10 {
+        return 10000;
+    }
+    -20000
 }
 
-fn say_refused(why: Refusal) {
-    say(b"refused ");
-    number(u8::from(why) as u64);
+fn say_answer(a: Answer) {
+    match a {
+        Answer::Ran(i) => {
+            say(b"T");
+            number(i as u64);
+        }
+        Answer::IdleFor(i) => {
+            say(b"I");
+            number(i as u64);
+        }
+        Answer::Idle => say(b"--"),
+    }
 }
 
 fn say_outcome(o: Outcome) {
     match o {
-        Ok(Answer::Ran(i)) => {
-            say(b"T");
-            number(i as u64);
+        Ok(a) => say_answer(a),
+        Err(why) => {
+            say(b"refused ");
+            number(u8::from(why) as u64);
         }
-        Ok(Answer::IdleFor(i)) => {
-            say(b"I");
-            number(i as u64);
-        }
-        Ok(Answer::Idle) => say(b"--"),
-        Err(why) => say_refused(why),
     }
 }
 
@@ -52,22 +61,18 @@ fn turn(t: Table, s: State, a: Actuator, clock: u64) -> Driven {
     actuator::drive(t, s, a, 0, &bytes, wanted(clock))
 }
 
-// Three periods from a state, at most 0.25 degrees a step.
-fn play(t: Table, fresh: State) {
-    let mut s = fresh;
+// Three periods, at most 0.25 degrees a step.
+pub fn tell() {
+    let t = story();
+    let Ok(mut s) = scheduler::fresh(t) else {
+        say(b"refused\n");
+        return;
+    };
     let mut a = actuator::start(0, 250, 0);
     for clock in 0..30u64 {
         let r = turn(t, s, a, clock);
         say_step(clock, r);
         s = r.state;
         a = r.actuator;
-    }
-}
-
-pub fn tell() {
-    let t = story();
-    match scheduler::fresh(t) {
-        Ok(s) => play(t, s),
-        Err(why) => say_refused(why),
     }
 }

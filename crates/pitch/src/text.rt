@@ -1,5 +1,4 @@
 // What is printed.
-
 pub fn say(text: &[u8]) {
     io::write_all(1, text);
 }

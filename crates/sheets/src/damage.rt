@@ -7,56 +7,49 @@ use spoil::{moved, with_byte, with_len};
 #[derive(Clone, Copy, Debug, PartialEq, Eq)]
 pub enum TextDamage {
     Nothing,
-    // at a place a character of any value, another one, one dropped, one doubled, and a zero or digits before it
     AnyValue,
-    Other,
+    OtherChar,
     Dropped,
     Doubled,
     ZeroBefore,
     DigitsBefore,
-    // at the end of a line its CR dropped, its LF, both, a comma in its place, and one more
+    // the end of a line without its CR, without its LF and without both
     NoCr,
     NoLf,
-    NoEnd,
-    CommaForEnd,
-    EndTwice,
-    // the text cut, its last characters dropped, and more behind it
+    NoCrlf,
+    // a comma in place of the end of a line
+    CommaForCrlf,
+    MoreCrlf,
     Cut,
+    // the last characters dropped, and more behind them
     LastDropped,
     Behind,
-    // a CRLF in place of a comma
-    EndForComma,
+    CrlfForComma,
 }
 
 impl TextDamage {
     pub const ALL: [TextDamage; 16] = [
         TextDamage::Nothing,
         TextDamage::AnyValue,
-        TextDamage::Other,
+        TextDamage::OtherChar,
         TextDamage::Dropped,
         TextDamage::Doubled,
         TextDamage::ZeroBefore,
         TextDamage::DigitsBefore,
         TextDamage::NoCr,
         TextDamage::NoLf,
-        TextDamage::NoEnd,
-        TextDamage::CommaForEnd,
-        TextDamage::EndTwice,
+        TextDamage::NoCrlf,
+        TextDamage::CommaForCrlf,
+        TextDamage::MoreCrlf,
         TextDamage::Cut,
         TextDamage::LastDropped,
         TextDamage::Behind,
-        TextDamage::EndForComma,
+        TextDamage::CrlfForComma,
     ];
 }
 
-const COMMA: u8 = 44;
-
-const CR: u8 = 13;
-
-const LF: u8 = 10;
-
 fn with_crlf(p: Sheet, at: usize) -> Sheet {
-    with_byte(with_byte(p, at, CR), at.wrapping_add(1), LF)
+    with_byte(with_byte(p, at, 13), at.wrapping_add(1), 10)
 }
 
 fn digit(seed: u64, k: u32) -> u8 {
@@ -84,9 +77,9 @@ fn many(seed: u64) -> u32 {
 // A character that a text has, or that one meets in a spreadsheet.
 fn some_char(seed: u64) -> u8 {
     match below(seed, 2, 12u16) {
-        0 => COMMA,
-        1 => CR,
-        2 => LF,
+        0 => 44,
+        1 => 13,
+        2 => 10,
         3 => 32,
         4 => 34,
         5 => 45,
@@ -99,32 +92,36 @@ fn some_char(seed: u64) -> u8 {
 
 // The first place from this on where this character stands, or this.
 fn next(p: Sheet, at: usize, b: u8) -> usize {
-    (at..2000).find(|i| p.byte(*i) == b).unwrap_or(at)
+    let found = p.bytes.iter().skip(at).position(|c| *c == b);
+    at.wrapping_add(found.unwrap_or(0))
 }
 
 pub fn text(seed: u64, p: Sheet, damage: TextDamage) -> Sheet {
     let at = below(seed, 1, (p.len % 2000) as u32) as usize;
-    let cr = next(p, at, CR);
-    let comma = next(p, at, COMMA);
+    let cr = next(p, at, 13);
+    let comma = next(p, at, 44);
     let few = 1 + below(seed, 7, 2u16) as usize;
     match damage {
         TextDamage::Nothing => p,
         TextDamage::AnyValue => with_byte(p, at, any(seed, 4)),
-        TextDamage::Other => with_byte(p, at, some_char(seed)),
+        TextDamage::OtherChar => with_byte(p, at, some_char(seed)),
         TextDamage::Dropped => moved(p, at, 1, 0),
         TextDamage::Doubled => with_byte(moved(p, at, 0, 1), at, p.byte(at)),
         TextDamage::ZeroBefore => with_byte(moved(p, at, 0, 1), at, 48),
         TextDamage::DigitsBefore => with_digits(seed, p, at, many(seed)),
         TextDamage::NoCr => moved(p, cr, 1, 0),
         TextDamage::NoLf => moved(p, cr.wrapping_add(1), 1, 0),
-        TextDamage::NoEnd => moved(p, cr, 2, 0),
-        TextDamage::CommaForEnd => with_byte(moved(p, cr, 1, 0), cr, COMMA),
-        TextDamage::EndTwice => with_crlf(moved(p, cr, 0, 2), cr),
+        TextDamage::NoCrlf => moved(p, cr, 2, 0),
+        TextDamage::CommaForCrlf => with_byte(moved(p, cr, 1, 0), cr, 44),
+        TextDamage::MoreCrlf => with_crlf(moved(p, cr, 0, 2), cr),
         TextDamage::Cut => with_len(p, at),
         TextDamage::LastDropped => with_len(p, p.len.wrapping_sub(few)),
         TextDamage::Behind => {
-            with_len(with_byte(p, p.len, some_char(seed)), p.len.wrapping_add(few))
+            with_len(
+                with_byte(p, p.len, some_char(seed)),
+                p.len.wrapping_add(few),
+            )
         }
-        TextDamage::EndForComma => with_crlf(moved(p, comma, 0, 1), comma),
+        TextDamage::CrlfForComma => with_crlf(moved(p, comma, 0, 1), comma),
     }
 }

@@ -13,13 +13,17 @@ use tally::{Tally, WRONG, count_agreed, line};
 
 // The text of a table, of which something may be wrong, and its text's damage.
 fn read_one(tally: &mut Tally, seed: u64, t: Table, damage: TextDamage) {
-    let spoiled = damage::text(seed, rival_sheet::write(t), damage);
-    let s = spoiled.text();
-    count_agreed(tally, bout_bytes::read(sheet::read(s), rival_sheet::read(s)));
+    let sheet = damage::text(seed, rival_sheet::write(t), damage);
+    let text = sheet.text();
+    count_agreed(
+        tally,
+        bout_bytes::read(sheet::read(text), rival_sheet::read(text)),
+    );
 }
 
 fn write_one(tally: &mut Tally, seed: u64, t: Table) {
-    count_agreed(tally, bout_bytes::write(seed, t, rival_sheet::write(t), sheet::write));
+    let text = rival_sheet::write(t);
+    count_agreed(tally, bout_bytes::write(seed, t, text, sheet::write));
 }
 
 fn play_table(tally: &mut Tally, seed: u64) {
@@ -38,6 +42,7 @@ fn play_table(tally: &mut Tally, seed: u64) {
     }
 }
 
+// A refused reading is counted at its number.
 fn report_reads(tally: &Tally) {
     line(tally, Kind::Read, b" texts read\n");
     for why in 1..11u32 {
@@ -48,14 +53,14 @@ fn report_reads(tally: &Tally) {
 }
 
 fn report(tally: &Tally) {
-    line(tally, Kind::Written, b" texts written\n");
+    line(tally, Kind::Written, b" tables written\n");
     line(tally, Kind::NotLegal, b" refused with 11\n");
     line(tally, Kind::NoRoom, b" refused with 16\n");
     line(tally, WRONG, b" disagreements\n");
 }
 
 fn main() {
-    let mut tally = [0; 64];
+    let mut tally = [0u32; 64];
     for k in 0..1000u32 {
         play_table(&mut tally, part(11, k));
     }

@@ -23,8 +23,8 @@ fn thread(own: u64, f: Thread, count: u8) -> Thread {
 
 pub fn table(seed: u64, t: Table) -> Table {
     let mut u = t;
-    for (i, f) in (0..t.count).zip(&mut u.threads) {
-        *f = thread(part(seed, i as u32), *f, t.count);
+    for (i, f) in (0..t.count).zip(t.threads) {
+        u.threads[i as usize % 32] = thread(part(seed, i as u32), f, t.count);
     }
     u
 }

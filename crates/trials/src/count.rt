@@ -1,34 +1,50 @@
 // What admission answers, held against the plain search and counted.
-use crate::Kind;
 use admission::{Admission, Search};
 use basis::Refusal;
 use table::Table;
-use tally::{Tally, agreed, count, count_agreed};
+use tally::{Tally, WRONG, count};
 
-// What came up, and the most demands that were worked out for one thread.
+#[derive(Clone, Copy, Debug, PartialEq, Eq)]
+pub enum Kind {
+    Admitted,
+    Without,
+    Refused,
+    Found,
+    Unbounded,
+    NoThread,
+    Prohibited,
+}
+
+impl From<Kind> for u32 {
+    fn from(kind: Kind) -> u32 {
+        kind as u32
+    }
+}
+
+// How much of each kind there was, and the most demands of one thread.
 #[derive(Clone, Copy)]
 pub struct Counts {
     pub tally: Tally,
     pub worst: u16,
 }
 
-// Whether the most idle steps of thread h are the plain ones: in no step, one period, a step more and a step less, some other length, and
-// the longest.
-fn is_idle(t: Table, h: u8, some: u32) -> bool {
-    let period = t.threads[h as usize % 32].period as u32;
-    let lengths = [0, period, period + 1, period.wrapping_sub(1), some, 4294967295];
-    lengths
-        .iter()
-        .all(|length| admission::idle_most(t, h, *length) == rival_bounds::idle_most(t, h, *length))
+fn is_figure(t: Table, h: u8, length: u32) -> bool {
+    admission::idle_most(t, h, length) == rival_bounds::idle_most(t, h, length)
 }
 
-// All counts of an admission together.
-fn together(counts: [u16; 32]) -> u32 {
-    let mut sum = 0u32;
-    for n in counts {
-        sum = sum.wrapping_add(n as u32);
-    }
-    sum
+// The most idle steps on a thread's account: in no step, one period, a step more and a step less, some other length, and the longest.
+fn is_idle(t: Table, h: u8, some: u32) -> bool {
+    let period = t.threads[h as usize % 32].period as u32;
+    [
+        0,
+        period,
+        period.wrapping_add(1),
+        period.wrapping_sub(1),
+        some,
+        4294967295,
+    ]
+    .iter()
+    .all(|length| is_figure(t, h, *length))
 }
 
 // A search works out at most D - W + 1 demands.
@@ -37,65 +53,84 @@ fn is_short(t: Table, i: u8, tried: u16) -> bool {
     tried as u32 <= f.deadline.wrapping_sub(f.budget) as u32 + 1
 }
 
-fn kind_of_search(found: Result<Search, Refusal>) -> Kind {
+// The number of a bound: none is 0, and a refusal 100,000 and its number.
+fn bound_number(found: Result<Search, Refusal>) -> u32 {
     match found {
-        Ok(search) => {
-            if search.bound.is_some() {
-                Kind::Bound
-            } else {
-                Kind::NoBound
-            }
-        }
-        Err(Refusal::Missing) => Kind::NoThread,
-        Err(_) => Kind::NotLegal,
+        Ok(search) => search.bound.unwrap_or(0) as u32,
+        Err(why) => 100000 + u8::from(why) as u32,
+    }
+}
+
+fn kind_of_search(found: Result<Search, Refusal>) -> Option<Kind> {
+    match found {
+        Ok(search) if search.bound.is_some() => Some(Kind::Found),
+        Ok(_) => Some(Kind::Unbounded),
+        Err(Refusal::Missing) => Some(Kind::NoThread),
+        Err(_) => None,
+    }
+}
+
+fn count_if(tally: &mut Tally, kind: Option<Kind>) {
+    if let Some(kind) = kind {
+        count(tally, kind);
     }
 }
 
 // The calls that name a thread.
-fn thread(counts: &mut Counts, t: Table, i: u8) {
-    let theirs = rival_bounds::bound_of(t, i);
+fn thread(y: &mut Counts, t: Table, i: u8) {
+    let found = rival_bounds::bound_of(t, i);
     let time = rival_bounds::prohibition(t, i);
-    let tried = theirs.map_or(0, |search| search.tried);
-    let bound = theirs.map_or(0, |search| search.bound.unwrap_or(0));
-    let kind = agreed(admission::bound_of(t, i), theirs, kind_of_search).filter(|_| {
-        admission::prohibition(t, i) == time
-            && is_idle(t, i, bound as u32 + tried as u32)
-            && (theirs.is_err() || is_short(t, i, tried))
-    });
-    count_agreed(&mut counts.tally, kind);
+    let tried = found.map_or(0, |search| search.tried);
+    let some = bound_number(found).wrapping_add(tried as u32);
+    let good = admission::bound_of(t, i) == found
+        && admission::prohibition(t, i) == time
+        && is_idle(t, i, some)
+        && (found.is_err() || is_short(t, i, tried));
+    count_if(&mut y.tally, kind_of_search(found));
     if time.is_ok_and(|steps| steps != 0) {
-        count(&mut counts.tally, Kind::Prohibited);
+        count(&mut y.tally, Kind::Prohibited);
     }
-    counts.worst = counts.worst.max(tried);
+    if !good {
+        count(&mut y.tally, WRONG);
+    }
+    y.worst = y.worst.max(tried);
 }
 
-fn kind_of_admission(given: Result<Admission, Refusal>) -> Kind {
-    match given {
-        Ok(a) => {
-            if a.without.is_none() {
-                Kind::Admitted
-            } else {
-                Kind::Without
-            }
-        }
+// All counts of an admission together.
+fn together(theirs: Result<Admission, Refusal>) -> u32 {
+    theirs.map_or(0, |admission| {
+        admission
+            .tried
+            .iter()
+            .fold(0u32, |sum, tried| sum.wrapping_add(*tried as u32))
+    })
+}
+
+// Whether admission answers as the plain search does, and the counts are together at most the worst count.
+fn is_same(t: Table, theirs: Result<Admission, Refusal>) -> bool {
+    let worst = rival_bounds::worst_count(t);
+    admission::admit(t) == theirs
+        && admission::worst_count(t) == worst
+        && worst.map_or(true, |most| together(theirs) <= most)
+}
+
+fn kind_of_admission(theirs: Result<Admission, Refusal>) -> Kind {
+    match theirs {
+        Ok(admission) if admission.without.is_none() => Kind::Admitted,
+        Ok(_) => Kind::Without,
         Err(_) => Kind::Refused,
     }
 }
 
-// Whether the worst count is the plain one, and the counts are together at most that.
-fn is_within(t: Table, theirs: Result<Admission, Refusal>) -> bool {
-    let worst = rival_bounds::worst_count(t);
-    let tried = theirs.map_or(0, |a| together(a.tried));
-    admission::worst_count(t) == worst && tried <= worst.unwrap_or(0)
-}
-
 // All threads of the table, and two that it lacks.
-pub fn table(counts: &mut Counts, t: Table) {
+pub fn table(y: &mut Counts, t: Table) {
     let theirs = rival_bounds::admit(t);
-    let kind = agreed(admission::admit(t), theirs, kind_of_admission).filter(|_| is_within(t, theirs));
-    count_agreed(&mut counts.tally, kind);
-    for i in 0..=t.count % 34 {
-        thread(counts, t, i);
+    count(&mut y.tally, kind_of_admission(theirs));
+    if !is_same(t, theirs) {
+        count(&mut y.tally, WRONG);
     }
-    thread(counts, t, 255);
+    for i in 0..=t.count % 34 {
+        thread(y, t, i);
+    }
+    thread(y, t, 255);
 }
