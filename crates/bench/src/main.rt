@@ -10,12 +10,13 @@ mod output;
 mod play;
 mod turn;
 
-use input::{load, turns_left};
+use input::load;
 use output::{complain, say_refused, say_threads};
 use std::rt::Files;
 use turn::take_turn;
 
-// Turn after turn. One that is open took a byte or was interrupted, and the clock allows 32,000,000,000 bytes.
+// Turn after turn, until one is the last. Each took a byte or was interrupted, and the clock allows 32,000,000,000 bytes; interruptions
+// might never end, so turns are counted.
 fn run(rt: &(impl Print + Eprint + Input), t: Table)
     requires { Legal t }
 {
@@ -24,12 +25,16 @@ fn run(rt: &(impl Print + Eprint + Input), t: Table)
     let mut from = rt.reader();
     let Ok(mut s) = fresh(t) else { unreachable!() };
     let mut have = 0;
-    let mut turns = turns_left(1000000000000000000, say_threads(rt, &mut out, t.count));
-    while 0 < turns {
+    if !say_threads(rt, &mut out, t.count) {
+        return;
+    }
+    for _ in 0..1000000000000000000u64 {
         let r = take_turn(rt, &mut from, t, s, have, &mut steps, &mut out);
+        if !r.open {
+            return;
+        }
         s = r.state;
         have = r.have;
-        turns = turns_left(turns, r.open);
     }
 }
 

@@ -1,4 +1,4 @@
--- The buffers keep their length, the state fits on, the rest stays less than a step, and the turns that are left fall.
+-- The buffers keep their length, the state fits on, and the rest stays less than a step.
 use mathlib.Core.Path.{◌≡◌, sym, ap, subst}
 use mathlib.Core.List.{[]}
 use native.Mathlib.Omega.{arith}
@@ -34,5 +34,5 @@ unrefused t why l e =
 pub unreachable-requires : goal.unreachable-requires
 unreachable-requires g c = unrefused c.args.t c.in_default.field-0 c.requires c.in_default.ensures.0
 
-pub loop-turns-init : goal.loop-turns-init
-loop-turns-init g c = (search rules, search rules, fitting c.args.t c.in-Ok.s c.requires c.in-Ok.ensures.1, c.requires.count_low)
+pub loop-init : goal.loop-init
+loop-init g c = (search rules, search rules, fitting c.args.t c.in-Ok.s c.requires c.in-Ok.ensures.1, c.requires.count_low)
