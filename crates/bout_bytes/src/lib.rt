@@ -4,9 +4,9 @@
 
 mod host_calls;
 mod kind;
-mod read;
-mod write;
+mod reading;
+mod writing;
 
 pub use kind::Kind;
-pub use read::{Answers, calls, read};
-pub use write::write;
+pub use reading::{Answers, calls, read};
+pub use writing::write;
