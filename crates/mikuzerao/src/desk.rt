@@ -13,16 +13,15 @@ pub fn say_legal(rt: &(impl Print + Eprint), t: &Table) {
     );
 }
 
-// What a writer puts into 4,096 bytes: 659 bytes and 1,386 characters at most.
-pub fn say_written<F: FnOnce(Table, &mut [u8], usize) -> Result<usize, Refusal>>(
+// What a writer puts to the front of 4,096 bytes: 659 bytes and 1,386 characters at most.
+pub fn say_written<F: FnOnce(&mut [u8]) -> Result<usize, Refusal>>(
     rt: &(impl Print + Eprint),
-    t: &Table,
     writer: F,
 )
     requires { F.IsAlwaysCallable writer }
 {
     let mut out = [0u8; 4096];
-    if let Ok(next) = writer(*t, &mut out, 0) {
+    if let Ok(next) = writer(&mut out) {
         if let Some(written) = out.get(..next) {
             let _ = write(rt, written);
         }

@@ -42,8 +42,12 @@ use words::read_word;
 fn answer(rt: &impl Runtime, call: Call) -> Result<(), Stop> {
     match call {
         Call::Check => desk(rt, Stream::Output, |t| say_legal(rt, t)),
-        Call::Bytes => desk(rt, Stream::Complaints, |t| say_written(rt, t, codec::write)),
-        Call::Sheet => desk(rt, Stream::Complaints, |t| say_written(rt, t, sheet::write)),
+        Call::Bytes => desk(rt, Stream::Complaints, |t| {
+            say_written(rt, |out| codec::write(*t, out, 0))
+        }),
+        Call::Sheet => desk(rt, Stream::Complaints, |t| {
+            say_written(rt, |out| sheet::write(*t, out, 0))
+        }),
         Call::Plan => desk(rt, Stream::Output, |t| plan(rt, t)),
         Call::Mend => mend_rows(rt),
         Call::Run | Call::Trace => run(rt, call),

@@ -36,12 +36,12 @@ pub fn is_word(rt: &impl Env, i: usize, name: &[u8]) -> bool {
 
 // Word i as a number.
 pub fn number_word(rt: &impl Env, i: usize) -> Option<u64> {
-    read_word(rt, i, number_of)
+    read_word(rt, i, |word| number_of(word))
 }
 
 // Word i as a number with or without a sign.
 pub fn signed_word(rt: &impl Env, i: usize) -> Option<i32> {
-    read_word(rt, i, signed_of)
+    read_word(rt, i, |word| signed_of(word))
 }
 
 // Just so many words stand behind the program's name.
