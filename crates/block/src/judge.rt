@@ -80,13 +80,7 @@ pub fn clocks_left(clock: u32) -> usize
 }
 
 // Of a legal table and a frame that passes: 12, 13, 18, 14, 16, or none of them.
-fn judge_then(
-    t: Table,
-    s: State,
-    masks: &[u32],
-    bytes: &[u8],
-    room: usize,
-) -> Result<(), Refusal>
+fn judge_then(t: Table, s: State, masks: &[u32], bytes: &[u8], room: usize) -> Result<(), Refusal>
     requires { (t.count ≤ 32) × (0 < t.count) }
     ensures { number_or_0 result ≡ refusal_then t masks.now bytes.now s room }
 {

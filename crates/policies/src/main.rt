@@ -55,7 +55,11 @@ fn rows(seed: u64, domains: u8) -> [u16; 18] {
 
 // A list of 240 places is long enough; one in four has fewer than 64.
 fn room(seed: u64) -> u8 {
-    if seldom(seed, 7, 4) { below(seed, 8, 64) } else { 240 }
+    if seldom(seed, 7, 4) {
+        below(seed, 8, 64)
+    } else {
+        240
+    }
 }
 
 fn count_kinds(tally: &mut Tally, mended: Result<Mended, Unmendable>) {
@@ -98,10 +102,26 @@ fn report(tally: &Tally) {
         b" policies mended, as a second closing does\n",
     );
     line(tally, Kind::Whole, b" of them transitive before\n");
-    line(tally, Kind::Long, b" of them with 100 pairs or more added\n");
-    line(tally, Kind::Refused(Unmendable::BadCount), b" refused with 5\n");
-    line(tally, Kind::Refused(Unmendable::BadRow(0)), b" refused with 6\n");
-    line(tally, Kind::Refused(Unmendable::NoRoom), b" refused with 16\n");
+    line(
+        tally,
+        Kind::Long,
+        b" of them with 100 pairs or more added\n",
+    );
+    line(
+        tally,
+        Kind::Refused(Unmendable::BadCount),
+        b" refused with 5\n",
+    );
+    line(
+        tally,
+        Kind::Refused(Unmendable::BadRow(0)),
+        b" refused with 6\n",
+    );
+    line(
+        tally,
+        Kind::Refused(Unmendable::NoRoom),
+        b" refused with 16\n",
+    );
     line(tally, WRONG, b" disagreements\n");
 }
 

@@ -63,6 +63,7 @@ module _ (t : Table) (mode : Mode) (masks bs : List ℕ) (s : State) (part : Lis
   runs_unique r q x y e f =
       let g : left_by r x ≡ left_by q y = e ∙ sym f in
       let seven : number_of r.why ≡ 7 → ⊥ = λ z. never_7 (sym (ap (λ (w : Played × List ℕ). w.0.why) e) ∙ z) in
-      let o : r.why ≡ q.why = why_known _ _ (ap (λ (w : Played × List ℕ). w.0.why) g) seven in
-      ((λ i. record { state = ap (λ (w : Played × List ℕ). w.0.state) g i; why = o i; n = ap (λ (w : Played × List ℕ). w.0.n) g i }),
-      ap (λ (w : Played × List ℕ). w.1) g)
+      let o : r.why ≡ q.why = why_known _ _ (ap (λ (w : Played × List ℕ). w.0.why) g) seven in (
+        (λ i. record { state = ap (λ (w : Played × List ℕ). w.0.state) g i; why = o i; n = ap (λ (w : Played × List ℕ). w.0.n) g i }),
+        ap (λ (w : Played × List ℕ). w.1) g,
+      )

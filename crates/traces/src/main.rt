@@ -128,7 +128,11 @@ fn report(tally: &Tally) {
     line(tally, Kind::Clean, b" of them with none\n");
     line(tally, Kind::Long, b" of them with 32 or more\n");
     line(tally, Kind::Refused(Refusal::NoRoom), b" refused with 16\n");
-    line(tally, Kind::Refused(Refusal::TraceByte), b" refused with 21\n");
+    line(
+        tally,
+        Kind::Refused(Refusal::TraceByte),
+        b" refused with 21\n",
+    );
     line(tally, WRONG, b" disagreements\n");
 }
 

@@ -19,11 +19,11 @@ loop-k-preserved c =
     let room : c.loop-k.k < length c.args.list.now = omega arith in
     elim c.match-found.branch [
       | in-Some w ↦
-        let here : Some w.in-Some.c ≡ first (drop c.loop-k.k (scanned c.args.n c.args.w.now c.args.trace.now)) = sym w.in-Some.is ∙ c.loop-k.invariant.at_hand in
-        record {
-          within = omega arith;
-          at_hand = w.found-is ∙ w.next-found.ensures ∙ followed _ _ _ _ _ few here;
-          written = w.list-is ∙ pasted_more _ _ _ _ _ few room c.loop-k.invariant.written here;
-        }
+          let here : Some w.in-Some.c ≡ first (drop c.loop-k.k (scanned c.args.n c.args.w.now c.args.trace.now)) = sym w.in-Some.is ∙ c.loop-k.invariant.at_hand in
+          record {
+            within = omega arith;
+            at_hand = w.found-is ∙ w.next-found.ensures ∙ followed _ _ _ _ _ few here;
+            written = w.list-is ∙ pasted_more _ _ _ _ _ few room c.loop-k.invariant.written here;
+          }
       | in_default w ↦ absurd (first_there c.loop-k.k _ few (sym c.loop-k.invariant.at_hand ∙ w.in_default.is))
     ]

@@ -13,13 +13,14 @@ unfolding masks_ok
 returns-then-not-mask_passes c = sym (every_fails _ _ _ (sym c.mask_passes.ensures ∙ c.if-not-mask_passes.true) c.loop-mask-test.true)
 
 pub loop-mask-preserved : goal.loop-mask-preserved
-loop-mask-preserved c =
-    (every-next _ _ c.loop-mask.invariant.0
-    (elim c.else-mask-all.branch [
-      else-mask-all-via-then-mask-all+else-not-mask_passes w ↦ sym w.mask_passes.ensures ∙ w.if-not-mask_passes.false
-      | else-mask-all-via-else-mask-all w ↦ within-passes _ _ _ c.loop-mask.invariant.1 w.if-mask-all.false
-    ]),
-    c.loop-mask.invariant.1)
+loop-mask-preserved c = (
+  every-next _ _ c.loop-mask.invariant.0
+      (elim c.else-mask-all.branch [
+        | else-mask-all-via-then-mask-all+else-not-mask_passes w ↦ sym w.mask_passes.ensures ∙ w.if-not-mask_passes.false
+        | else-mask-all-via-else-mask-all w ↦ within-passes _ _ _ c.loop-mask.invariant.1 w.if-mask-all.false
+      ]),
+  c.loop-mask.invariant.1,
+)
 
 pub returns : goal.returns
 unfolding masks_ok

@@ -83,7 +83,7 @@ loop-i-preserved c =
     let l : c.loop-i.i < length c.loop-i.next.threads = in_place _ _ _ _ _ f c.requires.usable.0.few c.loop-i-test.true c.loop-i.invariant in
     one_more c.args.t _ _ _ _ _ c.loop-i.invariant
     (elim c.if-th-eq1.branch [
-      then-th-eq1+in-Refill w ↦ w.next-is ∙ event_refills c.loop-i.next c.loop-i.i l _ _ _ w.if-th-eq1.true (rw w.has_event.ensures at w.in-Refill.ensures) _ _ w.execution_budget.ensures w.since_after.ensures
+      | then-th-eq1+in-Refill w ↦ w.next-is ∙ event_refills c.loop-i.next c.loop-i.i l _ _ _ w.if-th-eq1.true (rw w.has_event.ensures at w.in-Refill.ensures) _ _ w.execution_budget.ensures w.since_after.ensures
       | then-th-eq1+in-Empty w ↦ w.next-is ∙ event_empties c.loop-i.next c.loop-i.i l _ _ _ w.if-th-eq1.true (rw w.has_event.ensures at w.in-Empty.ensures) _ w.since_after-in-Empty.ensures
       | then-th-eq1+in-Stay w ↦ w.next-is ∙ event-leaves c.loop-i.next c.loop-i.i l _ _ _ w.if-th-eq1.true (rw w.has_event.ensures at w.in-Stay.ensures) _ w.since_after-in-Stay.ensures
       | else-th-eq1+in-Refill-clock_effect w ↦ w.next-is ∙ clock_refills c.loop-i.next c.loop-i.i l _ _ _ w.if-th-eq1.false w.in-Refill-clock_effect.ensures _ w.execution_budget-in-Refill-clock_effect.ensures
@@ -115,8 +115,7 @@ loop-r-preserved-then-rest-eq0 c =
     let long : length c.args.order.at ≡ 32 = search (rules, long_of) in
     let n : c.args.order.count ≤ length c.args.order.at = omega arith in
     let b : Below c.args.t.count (get_or c.args.order.at c.loop-r.r 0 ∷ slice (c.loop-r.r + 1) c.args.order.count c.args.order.at) = below _ _ _ n c.loop-r-test.true _ c.loop-r.invariant.0 in
-    let low : get_or c.args.order.at c.loop-r.r 0 < 32 = omega (arith, b.0, c.requires.usable.0.few) in
-    (
+    let low : get_or c.args.order.at c.loop-r.r 0 < 32 = omega (arith, b.0, c.requires.usable.0.few) in (
       b.1,
       going_passed _ _ _ _ _ c.loop-r.next (omega (arith, c.loop-r.invariant.2)) low _ _ (going _ _ _ n c.loop-r-test.true _ _ _ _ _ c.loop-r.invariant.1) c.place-p.ensures.0 c.if-rest-eq0.true,
       c.loop-r.invariant.2,
@@ -146,8 +145,7 @@ loop-r-preserved c =
     let long : length c.args.order.at ≡ 32 = search (rules, long_of) in
     let n : c.args.order.count ≤ length c.args.order.at = omega arith in
     let b : Below c.args.t.count (get_or c.args.order.at c.loop-r.r 0 ∷ slice (c.loop-r.r + 1) c.args.order.count c.args.order.at) = below _ _ _ n c.loop-r-test.true _ c.loop-r.invariant.0 in
-    let low : get_or c.args.order.at c.loop-r.r 0 < 32 = omega (arith, b.0, c.requires.usable.0.few) in
-    (
+    let low : get_or c.args.order.at c.loop-r.r 0 < 32 = omega (arith, b.0, c.requires.usable.0.few) in (
       b.1,
       going_next _ _ _ _ _ c.loop-r.next (omega (arith, c.loop-r.invariant.2)) low _ _ _ (going _ _ _ n c.loop-r-test.true _ _ _ _ _ c.loop-r.invariant.1) c.place-p.ensures.0 c.if-rest-eq0.false (sym c.would_run.ensures ∙ c.if-would_run.false) c.heard.ensures (sym c.is_some.ensures ∙ c.if-is_some.false),
       waits_long c.loop-r.next c.place-p.result ((progress c.loop-r.next c.place-p.result).rest - 1) c.heard.result ∙ c.loop-r.invariant.2,
@@ -159,9 +157,9 @@ loop-k-preserved c =
     let long : length c.args.order.at ≡ 32 = search (rules, long_of) in
     let n : c.args.order.count ≤ length c.args.order.at = omega arith in
     let d : Traces (walk c.args.marks (take (c.loop-k.at + c.args.t.count - c.loop-k.at) (drop c.loop-k.at c.args.bytes.now)) (slice 0 c.args.order.count c.args.order.at)
-        (record { clock = c.loop-k.next.clock + 1; threads = c.loop-i.next.threads })) c.loop-r-test.next c.loop-r-test.answer
+    (record { clock = c.loop-k.next.clock + 1; threads = c.loop-i.next.threads })) c.loop-r-test.next c.loop-r-test.answer
     = elim c.loop-r-test.branch [
-      else-loop-r-test w ↦ rw (w.next-is, w.answer-is) (going_done _ _ _ _ _ _ _ c.loop-r.r c.loop-r.auto.r-end w.loop-r-test.false c.loop-r.invariant.1)
+      | else-loop-r-test w ↦ rw (w.next-is, w.answer-is) (going_done _ _ _ _ _ _ _ c.loop-r.r c.loop-r.auto.r-end w.loop-r-test.false c.loop-r.invariant.1)
       | then-loop-r-test+else-rest-eq0+then-would_run w ↦
           let b : Below c.args.t.count (get_or c.args.order.at c.loop-r.r 0 ∷ slice (c.loop-r.r + 1) c.args.order.count c.args.order.at) = below _ _ _ n w.loop-r-test.true _ c.loop-r.invariant.0 in
           let low : get_or c.args.order.at c.loop-r.r 0 < 32 = omega (arith, b.0, c.requires.usable.0.few) in

@@ -16,7 +16,7 @@ returns-then-not-mask_passes c = (search rules, c.loop-k.invariant.0, λ _. sym 
 pub loop-k-preserved : goal.loop-k-preserved
 loop-k-preserved c =
     elim c.if-mask-known.branch [
-      then-mask-known+else-not-mask_passes w ↦
+      | then-mask-known+else-not-mask_passes w ↦
           let m = sym w.mask_passes.ensures ∙ w.if-not-mask_passes.false in
           rw w.known-is (every-next _ _ c.loop-k.invariant.0 m, both_known _ _ _ c.loop-k.invariant.1 m)
       | else-mask-known w ↦
