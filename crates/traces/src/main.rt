@@ -19,8 +19,10 @@ fn may(seed: u64, d: u8, e: u8) -> bool {
 
 fn row(seed: u64, d: u8) -> u16 {
     let mut set = 0;
-    for e in (0..16).filter(|e| may(seed, d, *e)) {
-        set |= 1u16 << e;
+    for e in 0..16u8 {
+        if may(seed, d, e) {
+            set |= 1u16 << e;
+        }
     }
     set
 }
