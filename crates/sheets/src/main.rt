@@ -53,7 +53,7 @@ fn report_reads(tally: &Tally) {
 }
 
 fn report(tally: &Tally) {
-    line(tally, Kind::Written, b" tables written\n");
+    line(tally, Kind::Written, b" texts written\n");
     line(tally, Kind::NotLegal, b" refused with 11\n");
     line(tally, Kind::NoRoom, b" refused with 16\n");
     line(tally, WRONG, b" disagreements\n");
