@@ -12,7 +12,7 @@ use Rattle.state.specs.declared.State.{State}
 use Rattle.frame.specs.Mode.{Mode}
 use Rattle.block.specs.declared.Ended.{Ended}
 use Rattle.basis.specs.Refusals.{number_or_0}
-use Rattle.block.specs.Block.{refusal, Blocked, refused_block, block, stop, behind, or_no_room, recorded, next_of, blocked_of}
+use Rattle.block.specs.Block.{refusal, Blocked, refused_block, block, stop, behind, or_no_room, recorded, next_of, values_of, blocked_of}
 use Rattle.block.proofs.CallLaws.{block_inside}
 
 module _ (t : Table) (mode : Mode) (masks bs : List ℕ) (s : State) (o : List ℕ) (at : ℕ) where
@@ -25,13 +25,14 @@ module _ (t : Table) (mode : Mode) (masks bs : List ℕ) (s : State) (o : List �
   recorded-within h = rw (le-leb at (length o) h)
 
   pub recorded_part : (r q : Ended) (ys : List ℕ) → at ≤ length o → q.state ≡ r.state → number_or_0 q.outcome ≡ number_or_0 r.outcome
+      → values_of q.outcome ≡ values_of r.outcome
       → next_of q.outcome ≡ stop (number_or_0 r.outcome) at (next_of r.outcome) → blocked_of r ys ≡ block t mode masks bs s (take (length o - at) (drop at o))
       → blocked_of q (take at o ++ (ys ++ drop (length o - at) (drop at o))) ≡ recorded t mode masks bs s o at
-  recorded_part r q ys h z m n e =
+  recorded_part r q ys h z m v n e =
       let l : length (drop at o) ≤ length o - at = omega (arith, length-drop at o) in
       let a : take (length o - at) (drop at o) ≡ drop at o = take_all (length o - at) (drop at o) l in
       let b : ys ++ drop (length o - at) (drop at o) ≡ ys = ap (λ (x : List ℕ). ys ++ x) (drop_of_length-le (drop at o) l) ∙ append-nil ys in
-      (λ i. record { number = m i; state = z i; part = take at o ++ b i; next = n i })
+      (λ i. record { number = m i; values = v i; state = z i; part = take at o ++ b i; next = n i })
       ∙ ap (λ (x : Blocked). behind at o x) (e ∙ ap (λ (x : List ℕ). block t mode masks bs s x) a)
       ∙ recorded-within h
 

@@ -3,7 +3,7 @@ use Prim.Native.Nat.{ℕ, ◌+◌, ◌≤◌, ◌<◌}
 use native.Mathlib.Omega.{arith}
 use native.Mathlib.Nat.{zero-add, add_assoc}
 use mathlib.Core.Path.{◌≡◌, refl, sym, ◌∙◌, ap, ap₂, subst}
-use mathlib.Core.List.{List, ◌++◌, map, append_assoc}
+use mathlib.Core.List.{List, [], ◌++◌, map, append_assoc}
 use mathlib.Core.Bool.{false}
 use lib.ListN.{length, take, drop, take-append-drop}
 use lib.Seq.{length-take-le, take-append-add, drop-append-add, drop_at, drop-drop}
@@ -11,7 +11,7 @@ use lib.Dec.{eqb, leb}
 use borrow.Author.Tests.{eqb-true, eqb-false, leb-true}
 use Rattle.basis.specs.Tests.{pick}
 use Rattle.basis.specs.Turns.{after}
-use Rattle.basis.proofs.TestLaws.{either}
+use Rattle.basis.proofs.TestLaws.{either, both_ways}
 use Rattle.table.specs.Legal.{Sized}
 use Rattle.table.specs.declared.Table.{Table}
 use Rattle.state.specs.declared.State.{State}
@@ -40,6 +40,11 @@ module _ (t : Table) (mode : Mode) (masks bs : List ℕ) (s : State) where
   block-number part =
       either (λ (b : Blocked). b.number ≡ refusal t mode masks bs s (length part)) (eqb (refusal t mode masks bs s (length part)) 0)
       (λ e. sym (eqb-true _ _ e)) (λ e. refl)
+
+  -- No number of a block comes with values.
+  pub block-values : (part : List ℕ) → (block t mode masks bs s part).values ≡ []
+  unfolding block made
+  block-values part = both_ways (λ (b : Blocked). b.values ≡ []) (eqb (refusal t mode masks bs s (length part)) 0) _ _ refl refl
 
   module _ (out : List ℕ) (at : ℕ) where
     -- A refused call hands back the state it was given, writes no byte, and its place is 0.
@@ -136,11 +141,13 @@ module _ (t : Table) (mode : Mode) (z : Sized t) (masks masks' bs bs' : List ℕ
       let q' : refusal t mode masks' bs' one.state (length (drop m (drop at out))) ≡ 0
       = subst (λ (x : List ℕ). refusal t mode masks' bs' one.state (length x) ≡ 0) rest q.1 in
       let n : two.number ≡ 0 = block-number t mode masks' bs' one.state (drop m (drop at out)) ∙ q' in
+      let v : two.values ≡ [] = block-values t mode masks' bs' one.state (drop m (drop at out)) in
       let there : stop 0 at (m + two.next) ≡ stop two.number (at + m) two.next = moved_on at m two.next ∙ ap (λ (j : ℕ). stop j (at + m) two.next) (sym n) in
       sym (recorded-within t mode (masks ++ masks') (bs ++ bs') s out at l)
       ∙ ap (λ (b : Blocked). behind at out b) (two_blocks t mode z masks masks' bs bs' s (drop at out) p q')
       ∙ (λ i. record {
         number = sym n i;
+        values = sym v i;
         state = two.state;
         part = (sym (append_assoc (take at out) (take m one.part) two.part) ∙ ap (λ (x : List ℕ). x ++ two.part) (sym front)) i;
         next = there i;

@@ -62,7 +62,7 @@ sets_front : (xs o : List ℕ) → length xs ≤ length o → sets o 0 xs ≡ xs
 sets_front xs o h = let e : 0 + length xs ≡ length xs = omega arith in sets-eq xs o 0 (omega arith) ∙ ap (λ (n : ℕ). xs ++ drop n o) e
 
 pub makes : (f : Input → State → Walked) (xs : List Input) (s z : State) (part part' : List ℕ) (n : ℕ) → z ≡ end_of f xs s → part' ≡ sets part 0 (trace_of f xs s)
-    → n ≡ length xs → n ≤ length part → ◌≡◌ {A = Blocked} (record { number = 0; state = z; part = part'; next = n }) (made f xs s part)
+    → n ≡ length xs → n ≤ length part → ◌≡◌ {A = Blocked} (record { number = 0; values = []; state = z; part = part'; next = n }) (made f xs s part)
 unfolding made
 makes f xs s z part part' n e p k h =
     let l : length (trace_of f xs s) ≡ length xs = trace-length f s xs in
@@ -136,7 +136,7 @@ unframed_has t c = refl
 pub mode-made : (t : Table) (mode : Mode) (masks bs : List ℕ) (s z : State) (part part' : List ℕ)
     → z ≡ end_of (step t mode) (inputs t masks bs 0 (length masks)) s → part' ≡ sets part 0 (trace_of (step t mode) (inputs t masks bs 0 (length masks)) s)
     → length masks ≤ length part → refusal t mode masks bs s (length part) ≡ 0
-    → ◌≡◌ {A = Blocked} (record { number = 0; state = z; part = part'; next = length masks }) (block t mode masks bs s part)
+    → ◌≡◌ {A = Blocked} (record { number = 0; values = []; state = z; part = part'; next = length masks }) (block t mode masks bs s part)
 mode-made t mode masks bs s z part part' e p h r =
     makes (step t mode) (inputs t masks bs 0 (length masks)) s z part part' (length masks) e p (sym (inputs-length t masks bs 0 (length masks))) h
     ∙ block_made t mode masks bs s part r
@@ -145,7 +145,7 @@ mode-made t mode masks bs s z part part' e p h r =
 pub unframed_made : (t : Table) (m : List Mark) (is masks bs : List ℕ) (s z : State) (part part' : List ℕ) → m ≡ marks_of t → is ≡ order t
     → z ≡ end_of (advance t m is) (inputs t masks bs 0 (length masks)) s → part' ≡ sets part 0 (trace_of (advance t m is) (inputs t masks bs 0 (length masks)) s)
     → length masks ≤ length part → refusal t unframed masks bs s (length part) ≡ 0
-    → ◌≡◌ {A = Blocked} (record { number = 0; state = z; part = part'; next = length masks }) (block t unframed masks bs s part)
+    → ◌≡◌ {A = Blocked} (record { number = 0; values = []; state = z; part = part'; next = length masks }) (block t unframed masks bs s part)
 unframed_made t m is masks bs s z part part' a b e p h r =
     let xs : List Input = inputs t masks bs 0 (length masks) in
     let u : end_of (advance t m is) xs s ≡ end_of (step t unframed) xs s

@@ -66,7 +66,7 @@ two-joined : (t : Table) (mode : Mode) (masks masks' bs bs' : List ℕ) (s : Sta
     → refusal t mode (masks ++ masks') (bs ++ bs') s (length part) ≡ 0
     → let one = block t mode masks bs s part in
     let two = block t mode masks' bs' one.state (drop (length masks) part) in
-    block t mode (masks ++ masks') (bs ++ bs') s part ≡ record { number = 0; state = two.state; part = take (length masks) one.part ++ two.part; next = length masks + two.next }
+    block t mode (masks ++ masks') (bs ++ bs') s part ≡ record { number = 0; values = []; state = two.state; part = take (length masks) one.part ++ two.part; next = length masks + two.next }
 unfolding made
 two-joined t mode masks masks' bs bs' s part p q r =
     let xs : List Input = inputs t masks bs 0 (length masks) in
@@ -82,9 +82,10 @@ two-joined t mode masks masks' bs bs' s part p q r =
     let v : take (length masks) (block t mode masks bs s part).part ≡ trace_of f xs s = ap (λ (b : Blocked). take (length masks) b.part) (sym one) ∙ a in
     let two : made f ys z (drop (length masks) part) ≡ block t mode masks' bs' (block t mode masks bs s part).state (drop (length masks) part)
     = ap (λ (y : State). made f ys y (drop (length masks) part)) (sym u) ∙ block_made t mode masks' bs' _ (drop (length masks) part) q in
-    let w : made f (xs ++ ys) s part ≡ record { number = 0; state = end_of f ys z; part = trace_of f xs s ++ (trace_of f ys z ++ drop (length ys) (drop (length masks) part)); next = length masks + length ys }
+    let w : made f (xs ++ ys) s part ≡ record { number = 0; values = []; state = end_of f ys z; part = trace_of f xs s ++ (trace_of f ys z ++ drop (length ys) (drop (length masks) part)); next = length masks + length ys }
     = λ i. record {
       number = 0;
+      values = [];
       state = end_join f s xs ys i;
       part = (ap₂ ◌++◌ (trace_join f s xs ys) (ap (λ k. drop k part) (length-append xs ys ∙ ap (λ k. k + length ys) n) ∙ sym (drop-drop (length ys) (length masks) part))
           ∙ append_assoc (trace_of f xs s) (trace_of f ys z) (drop (length ys) (drop (length masks) part))) i;
@@ -93,7 +94,7 @@ two-joined t mode masks masks' bs bs' s part p q r =
     sym (block_made t mode (masks ++ masks') (bs ++ bs') s part r)
     ∙ ap (λ (l : List Input). made f l s part) (both_inputs t masks masks' bs bs' h)
     ∙ w
-    ∙ (λ i. record { number = 0; state = (two i).state; part = sym v i ++ (two i).part; next = length masks + (two i).next })
+    ∙ (λ i. record { number = 0; values = []; state = (two i).state; part = sym v i ++ (two i).part; next = length masks + (two i).next })
 
 -- One byte for each thread and step is what the test of a block's lengths asks.
 pub whole_by : (t : Table) (masks bs : List ℕ) → 0 < t.count → length bs ≡ length masks * t.count → whole t masks bs ≡ true
@@ -144,5 +145,5 @@ pub two_blocks : (t : Table) (mode : Mode) → Sized t → (masks masks' bs bs' 
     → refusal t mode masks' bs' (block t mode masks bs s part).state (length (drop (length masks) part)) ≡ 0
     → let one = block t mode masks bs s part in
     let two = block t mode masks' bs' one.state (drop (length masks) part) in
-    block t mode (masks ++ masks') (bs ++ bs') s part ≡ record { number = 0; state = two.state; part = take (length masks) one.part ++ two.part; next = length masks + two.next }
+    block t mode (masks ++ masks') (bs ++ bs') s part ≡ record { number = 0; values = []; state = two.state; part = take (length masks) one.part ++ two.part; next = length masks + two.next }
 two_blocks t mode z masks masks' bs bs' s part p q = two-joined t mode masks masks' bs bs' s part p q (both_pass t mode z masks masks' bs bs' s part p q)

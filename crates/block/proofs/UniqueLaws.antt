@@ -1,5 +1,6 @@
--- No second answer fits a call: none is refused with 7, the one number that comes with values.
+-- No second answer fits a call; none is refused with 7, the one number that comes with values.
 use Prim.Native.Nat.{ℕ, ◌<◌}
+use lib.ListN.{length}
 use mathlib.Core.Path.{◌≡◌, refl, sym, ◌∙◌, ap}
 use mathlib.Core.List.{List, []}
 use native.Mathlib.Omega.{arith}
@@ -12,9 +13,10 @@ use Rattle.table.specs.declared.Table.{Table}
 use Rattle.state.specs.declared.State.{State}
 use Rattle.frame.specs.Mode.{Mode}
 use Rattle.block.specs.declared.Ended.{Ended}
-use Rattle.block.specs.Block.{Blocked, block, recorded, next_of, blocked_of}
+use Rattle.block.specs.Block.{refusal, Blocked, recorded, or_no_room, next_of, values_of, blocked_of}
 use Rattle.block.specs.Numbered.{BlockNumbered}
-use Rattle.block.proofs.RecordLaws.{recorded-front}
+use Rattle.block.proofs.RecordLaws.{recorded-front, block-number}
+use Rattle.block.proofs.PlaceLaws.{recorded_past}
 use Rattle.block.proofs.NumberLaws.{block_number_exactly}
 
 valueless : (why : Refusal) → (number why ≡ 7 → ⊥) → values why ≡ []
@@ -44,27 +46,37 @@ refusal_known why other e d =
     let v : values why ≡ values other = valueless why d ∙ sym (valueless other (λ q. d (e ∙ q))) in
     refused-apart why other (λ i. record { number = e i; values = v i })
 
-outcome_known : (r q : Result ℕ Refusal) → number_or_0 r ≡ number_or_0 q → next_of r ≡ next_of q → (number_or_0 r ≡ 7 → ⊥) → r ≡ q
-outcome_known (Ok a) (Ok b) e f d = ap Ok f
-outcome_known (Ok a) (Err why) e f d = absurd (let p : 0 < number why = number-positive why in omega arith)
-outcome_known (Err why) (Ok b) e f d = absurd (let p : 0 < number why = number-positive why in omega arith)
-outcome_known (Err why) (Err other) e f d = ap Err (refusal_known why other e d)
+-- An outcome is known by its number, its values and its place.
+outcome_known : (r q : Result ℕ Refusal) → number_or_0 r ≡ number_or_0 q → values_of r ≡ values_of q → next_of r ≡ next_of q → r ≡ q
+outcome_known (Ok a) (Ok b) e v f = ap Ok f
+outcome_known (Ok a) (Err why) e v f = absurd (let p : 0 < number why = number-positive why in omega arith)
+outcome_known (Err why) (Ok b) e v f = absurd (let p : 0 < number why = number-positive why in omega arith)
+outcome_known (Err why) (Err other) e v f = ap Err (refused-apart why other (λ i. record { number = e i; values = v i }))
 
-never_7 : (t : Table) (mode : Mode) (masks bs : List ℕ) (s : State) (out : List ℕ) (at : ℕ) → (recorded t mode masks bs s out at).number ≡ 7 → ⊥
-never_7 t mode masks bs s out at e = none ((block_number_exactly t mode masks bs s out at 7).0 e)
-  where
-    none : BlockNumbered t mode masks bs s out at 7 → ⊥
-    none r = elim r [ ]
+-- No second answer fits a call, and the part can hold nothing else.
+pub block_unique : (b : Blocked) (r q : Ended) (x y : List ℕ) → blocked_of r x ≡ b → blocked_of q y ≡ b → (r ≡ q) × (x ≡ y)
+block_unique b r q x y e f =
+    let g : blocked_of r x ≡ blocked_of q y = e ∙ sym f in
+    let o : r.outcome ≡ q.outcome
+    = outcome_known _ _ (ap (λ (w : Blocked). w.number) g) (ap (λ (w : Blocked). w.values) g) (ap (λ (w : Blocked). w.next) g) in
+    ((λ i. record { outcome = o i; state = ap (λ (w : Blocked). w.state) g i }), ap (λ (w : Blocked). w.part) g)
 
 module _ (t : Table) (mode : Mode) (masks bs : List ℕ) (s : State) where
+  pub never_7 : (out : List ℕ) (at : ℕ) → (recorded t mode masks bs s out at).number ≡ 7 → ⊥
+  never_7 out at e = none ((block_number_exactly t mode masks bs s out at 7).0 e)
+    where
+      none : BlockNumbered t mode masks bs s out at 7 → ⊥
+      none r = elim r [ ]
+
   pub record_unique : (out : List ℕ) (at : ℕ) (r q : Ended) (x y : List ℕ) → blocked_of r x ≡ recorded t mode masks bs s out at
       → blocked_of q y ≡ recorded t mode masks bs s out at → (r ≡ q) × (x ≡ y)
-  record_unique out at r q x y e f =
-      let g : blocked_of r x ≡ blocked_of q y = e ∙ sym f in
-      let seven : number_or_0 r.outcome ≡ 7 → ⊥ = λ z. never_7 t mode masks bs s out at (sym (ap (λ (w : Blocked). w.number) e) ∙ z) in
-      let o : r.outcome ≡ q.outcome = outcome_known _ _ (ap (λ (w : Blocked). w.number) g) (ap (λ (w : Blocked). w.next) g) seven in
-      ((λ i. record { outcome = o i; state = ap (λ (w : Blocked). w.state) g i }), ap (λ (w : Blocked). w.part) g)
+  record_unique out at = block_unique (recorded t mode masks bs s out at)
 
-  pub block_unique : (part : List ℕ) (r q : Ended) (x y : List ℕ) → blocked_of r x ≡ block t mode masks bs s part → blocked_of q y ≡ block t mode masks bs s part
-      → (r ≡ q) × (x ≡ y)
-  block_unique part r q x y e f = record_unique part 0 r q x y (e ∙ sym (recorded-front t mode masks bs s part)) (f ∙ sym (recorded-front t mode masks bs s part))
+  -- A refusal of a call has no values.
+  pub block_plain : (part : List ℕ) (why : Refusal) → number why ≡ refusal t mode masks bs s (length part) → values why ≡ []
+  block_plain part why e =
+      valueless why (λ z. never_7 part 0 (ap (λ (w : Blocked). w.number) (recorded-front t mode masks bs s part) ∙ block-number t mode masks bs s part ∙ sym e ∙ z))
+
+  pub record_plain : (out : List ℕ) (at : ℕ) (why : Refusal) → length out < at → number why ≡ or_no_room (refusal t mode masks bs s 0) → values why ≡ []
+  record_plain out at why h e =
+      valueless why (λ z. never_7 out at (ap (λ (w : Blocked). w.number) (sym (recorded_past t mode masks bs s out at _ h refl)) ∙ sym e ∙ z))

@@ -1,5 +1,5 @@
 -- A block of steps in one call: the state after them and one byte a step, or the number that refuses them all.
-use Rattle.std.specs.Prelude.{ℕ, ◌+◌, ◌*◌, ◌/◌, ◌%◌, List, ◌++◌, map, Bool, length, get_or, take, drop, eqb, leb, Option, None, Some, Result}
+use Rattle.std.specs.Prelude.{ℕ, ◌+◌, ◌*◌, ◌/◌, ◌%◌, List, [], ◌++◌, map, Bool, length, get_or, take, drop, eqb, leb, Option, None, Some, Result, Ok, Err}
 use Rattle.basis.specs.Tests.{pick, and, every}
 use Rattle.basis.specs.Search.{listed}
 use Rattle.basis.specs.Turns.{in_turn, after}
@@ -14,7 +14,7 @@ use Rattle.walk.specs.declared.Answer.{Answer}
 use Rattle.walk.specs.declared.Answer.TheVariants.{Ran, IdleFor, Idle}
 use Rattle.walk.specs.declared.Walked.{Walked}
 use Rattle.scheduler.specs.Taken.{Taken, answer_of, mask_ok}
-use Rattle.basis.specs.Refusals.{number, number_or_0, given_or}
+use Rattle.basis.specs.Refusals.{number, values, number_or_0, given_or}
 use Rattle.basis.specs.declared.refusal.Refusal.{Refusal}
 use Rattle.block.specs.declared.Ended.{Ended}
 
@@ -68,20 +68,22 @@ refusal_then t masks bytes s room =
 unfoldable pub refusal : Table → Mode → List ℕ → List ℕ → State → ℕ → ℕ
 refusal t mode masks bytes s room = pick (legal t) (pick (mode_ok t mode) (refusal_then t masks bytes s room) 19) 11
 
--- What a call gives: its number (0: not refused), a state, what the lent part then holds, and the place in it behind the last byte written.
+-- What a call gives: its number (0: not refused) and the values that go with it, a state, what the lent part then holds, and the place in it
+-- behind the last byte written.
 pub record Blocked : Type 0 where
   pub number : ℕ
+  pub values : List ℕ
   pub state : State
   pub part : List ℕ
   pub next : ℕ
 
 -- A refused call hands back the state it was given, and writes no byte; its place is 0.
 abbrev pub refused_block : ℕ → State → List ℕ → Blocked
-refused_block why s part = record { number = why; state = s; part = part; next = 0 }
+refused_block why s part = record { number = why; values = []; state = s; part = part; next = 0 }
 
 -- Steps made: their bytes stand at the part's front, and its other bytes stay; the next place is behind them.
 unfoldable pub made : (Input → State → Walked) → List Input → State → List ℕ → Blocked
-made f xs s part = record { number = 0; state = end_of f xs s; part = trace_of f xs s ++ drop (length xs) part; next = length xs }
+made f xs s part = record { number = 0; values = []; state = end_of f xs s; part = trace_of f xs s ++ drop (length xs) part; next = length xs }
 
 -- A call in a mode, all or nothing: a refusal, or one step for each mask.
 unfoldable pub block : Table → Mode → List ℕ → List ℕ → State → List ℕ → Blocked
@@ -96,7 +98,7 @@ stop number at m = pick (eqb number 0) (at + m) 0
 
 -- Of a part that starts at a place, said of the whole record: what stands before it stays, and the next place is as many bytes behind it.
 abbrev pub behind : ℕ → List ℕ → Blocked → Blocked
-behind at out b = record { number = b.number; state = b.state; part = take at out ++ b.part; next = stop b.number at b.next }
+behind at out b = record { number = b.number; values = b.values; state = b.state; part = take at out ++ b.part; next = stop b.number at b.next }
 
 -- Where there is no place to write, 16 comes behind every other number.
 unfoldable pub or_no_room : ℕ → ℕ
@@ -118,9 +120,13 @@ abbrev pub number_of : Option Refusal → ℕ
 number_of (Some why) = number why
 number_of None = 0
 
--- What an answer of the code gives, with what the part holds at its end; the place is 0 on a refusal.
+-- What an answer of the code gives, with what the part holds at its end; the place is 0 on a refusal, and only a refusal has values.
 abbrev pub next_of : Result ℕ Refusal → ℕ
 next_of r = given_or 0 r
 
+abbrev pub values_of : Result ℕ Refusal → List ℕ
+values_of (Ok next) = []
+values_of (Err why) = values why
+
 abbrev pub blocked_of : Ended → List ℕ → Blocked
-blocked_of r part = record { number = number_or_0 r.outcome; state = r.state; part = part; next = next_of r.outcome }
+blocked_of r part = record { number = number_or_0 r.outcome; values = values_of r.outcome; state = r.state; part = part; next = next_of r.outcome }

@@ -2,7 +2,7 @@
 ghost use Rattle.std.specs.Prelude.{◌+◌, ◌<◌, ◌≡◌};
 ghost use Rattle.frame.specs.Mode.{unframed, framed};
 ghost use Rattle.basis.specs.Refusals.{number, number_or_0};
-ghost use Rattle.block.specs.Block.{refusal as the-refusal, mode_of, next_of, blocked_of, or_no_room, stop as the-stop, recorded};
+ghost use Rattle.block.specs.Block.{refusal as the-refusal, mode_of, next_of, values_of, blocked_of, or_no_room, stop as the-stop, recorded};
 
 use super::judge::judge;
 use super::{Ended, refuse, run_in_mode};
@@ -26,7 +26,7 @@ fn or_no_room(judged: Result<(), Refusal>) -> Refusal
 #[tactic(auto, unfolding(crate::specs::Block::stop, basis::specs::Tests::pick))]
 fn behind(at: usize, end: Ended) -> Ended
     requires { at + next_of end.outcome < 18446744073709551616 }
-    ensures { (result.state ≡ end.state) × (number_or_0 result.outcome ≡ number_or_0 end.outcome) × (next_of result.outcome ≡ the-stop (number_or_0 end.outcome) at (next_of end.outcome)) }
+    ensures { (result.state ≡ end.state) × (number_or_0 result.outcome ≡ number_or_0 end.outcome) × (values_of result.outcome ≡ values_of end.outcome) × (next_of result.outcome ≡ the-stop (number_or_0 end.outcome) at (next_of end.outcome)) }
 {
     match end.outcome {
         Ok(next) => Ended {

@@ -42,7 +42,7 @@ use Rattle.block.proofs.NumberLaws.{whole_exactly, masks_exactly, block_number_e
 use Rattle.block_isolation.proofs.ByteLaws.{byte-answer}
 use Rattle.block_isolation.proofs.ShownLaws.{number-shown, threads_told, trace-shown, refused-shown}
 use Rattle.block_isolation.proofs.Isolation.{demand_3_blocks}
-use Rattle.isolation.proofs.Isolation.{telling-chosen, telling-refused, demand_3, state_always_shown}
+use Rattle.isolation.proofs.Isolation.{telling-chosen, telling-refused, telling-error, demand_3, state_always_shown}
 use Rattle.host.proofs.HostLaws.{mark_refused_exactly, bound_refused_exactly}
 use Rattle.admission.proofs.DemandLaws.{demand_exactly}
 use Rattle.admission.proofs.TriedLaws.{tried_exactly, tried-most}
@@ -194,6 +194,7 @@ demand_3_holds = record {
   shown_throughout = λ t mode g. state_always_shown t mode (legal_complete t g);
   told-answers = telling-chosen;
   told_refusals = telling-refused;
+  told_errors = telling-error;
   visible_exactly = visible_exactly;
   seen_at = seen_at;
   hidden_at = hidden_at;

@@ -1,7 +1,7 @@
 -- Demand 3, whole: a legal table, a fresh start, any finite list of steps, one domain d; change at will the bytes of all threads whose
 -- domain may not flow to d, with the same public masks, and at every step d is shown the same.
-use Rattle.std.specs.Prelude.{ℕ, ◌+◌, ◌<◌, ◌≡◌, List, [], ◌++◌, map, true, false, ◌↔◌, length, get_or, take, drop, Ok, Err}
-use Rattle.basis.specs.Told.{answered}
+use Rattle.std.specs.Prelude.{ℕ, ◌+◌, ◌<◌, ◌≡◌, List, [], ◌++◌, map, true, false, ◌≢◌, ◌↔◌, length, get_or, take, drop, Ok, Err}
+use Rattle.basis.specs.Told.{answered, refused}
 use Rattle.basis.specs.Refusals.{refused_by}
 use Rattle.basis.specs.declared.refusal.Refusal.{Refusal}
 use Rattle.flow.specs.Flow.{flows}
@@ -29,7 +29,8 @@ pub record Demand3 : Type 0 where
       → map (λ (r : Taken). showing_state t r.state d) (calls t mode a (fresh t)) ≡ map (λ (x : Input). answered []) a
   -- What it is told of a call is what the operation `shown` tells of its answer, or the number of the refusal.
   pub told-answers : (t : Table) (d : ℕ) (a : Answer) → telling t d (told (Ok a)) ≡ showing t d a
-  pub told_refusals : (t : Table) (d : ℕ) (why : Refusal) → telling t d (told (Err why)) ≡ refused_by why
+  pub told_refusals : (t : Table) (d why : ℕ) → why ≢ 0 → telling t d (refused why) ≡ refused why
+  pub told_errors : (t : Table) (d : ℕ) (why : Refusal) → telling t d (told (Err why)) ≡ refused_by why
   -- It may see a thread exactly if that thread's domain may flow to it, and is then shown all of its progress but its steps since release; of any other, zeros.
   pub visible_exactly : (t : Table) (d i : ℕ) → (visible t d i ≡ true) ↔ ((i < t.count) × (flows t.rows (thread t i).domain d ≡ true))
   pub seen_at : (t : Table) (d : ℕ) (s : State) (i : ℕ) → i < 32 → visible t d i ≡ true → get_or (seen_threads t d s) i no_progress ≡ with_since 0 (progress s i)

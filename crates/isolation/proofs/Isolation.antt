@@ -2,6 +2,7 @@
 -- call by call: states that are alike for d and fit stay so (`Lockstep`), and no refusal looks at a byte's value.
 use Prim.Native.Nat.{ℕ, ◌<◌}
 use native.Mathlib.Omega.{arith}
+use mathlib.Core.Logic.{◌≢◌}
 use mathlib.Core.Path.{◌≡◌, refl, sym, ap, ap₂, ◌∙◌, subst}
 use mathlib.Core.List.{List, [], ◌∷◌, map}
 use mathlib.Core.Bool.{true}
@@ -9,7 +10,7 @@ use lib.ListN.{length}
 use lib.Dec.{eqb, ltb}
 use borrow.Author.Tests.{lt-ltb, ne_eqb}
 use Rattle.basis.specs.Tests.{pick}
-use Rattle.basis.specs.Told.{answered}
+use Rattle.basis.specs.Told.{answered, refused}
 use Rattle.basis.specs.Refusals.{number, refused_by}
 use Rattle.basis.specs.declared.refusal.Refusal.{Refusal}
 use Rattle.basis.proofs.RefusalLaws.{number-positive}
@@ -47,9 +48,13 @@ pub telling-chosen : (t : Table) (d : ℕ) (a : Answer) → telling t d (told (O
 unfolding telling pick
 telling-chosen t d a = rw (answer_back a)
 
-pub telling-refused : (t : Table) (d : ℕ) (why : Refusal) → telling t d (told (Err why)) ≡ refused_by why
+pub telling-refused : (t : Table) (d why : ℕ) → why ≢ 0 → telling t d (refused why) ≡ refused why
 unfolding telling pick
-telling-refused t d why = rw (ne_eqb (number why) 0 (λ e. omega (arith, number-positive why, e)))
+telling-refused t d why h = rw (ne_eqb _ _ h)
+
+pub telling-error : (t : Table) (d : ℕ) (why : Refusal) → telling t d (told (Err why)) ≡ refused_by why
+unfolding telling pick
+telling-error t d why = rw (ne_eqb (number why) 0 (λ e. omega (arith, number-positive why, e)))
 
 module _ (t : Table) (l : Legal t) (d : ℕ) (dd : d < t.domains) where
   -- A step that walks over any list of threads by falling priority.

@@ -1,7 +1,7 @@
 -- The steps before the first that is refused are a block that is not refused, and the state behind them refuses the next.
 use Prim.Native.Nat.{ℕ, ◌+◌, ◌*◌, ◌≤◌, ◌<◌}
 use mathlib.Core.Path.{◌≡◌, sym, ◌∙◌, ap}
-use mathlib.Core.List.{List}
+use mathlib.Core.List.{List, []}
 use mathlib.Core.Bool.{true}
 use native.Mathlib.Omega.{arith}
 use borrow.Author.Tests.{eq-eqb, le-leb}
@@ -21,7 +21,7 @@ use Rattle.walk.specs.Step.{Input, step}
 use Rattle.walk.proofs.StepLaws.{step_clock, step_fits}
 use Rattle.scheduler.specs.Taken.{mask_ok, taken_then, taken}
 use Rattle.basis.specs.Refusals.{number_or_0}
-use Rattle.block.specs.Block.{input_at, inputs, end_of, masks_ok, refusal_then, refusal, Blocked, made, block, blocked_of, next_of}
+use Rattle.block.specs.Block.{input_at, inputs, end_of, masks_ok, refusal_then, refusal, Blocked, made, block, blocked_of, next_of, values_of}
 use Rattle.block.specs.declared.Ended.{Ended}
 use Rattle.block.proofs.StretchLaws.{clock_at, fits-at, part-inside}
 use Rattle.block.proofs.RunLaws.{block_made, block-next}
@@ -109,6 +109,10 @@ module _ (t : Table) (mode : Mode) (l : Legal t) (o : mode_ok t mode ≡ true) (
   unfolding made
   number-made = ap (λ (x : Blocked). x.number) steps-made
 
+  values-made : values_of r.outcome ≡ []
+  unfolding made
+  values-made = ap (λ (x : Blocked). x.values) steps-made
+
   next-made : next_of r.outcome ≡ b.n
   next-made = ap (λ (x : Blocked). x.next) gave ∙ block-next t mode front_masks front_bytes s part unrefused ∙ many
 
@@ -129,7 +133,7 @@ module _ (t : Table) (mode : Mode) (l : Legal t) (o : mode_ok t mode ≡ true) (
   pub plays : Plays t mode s masks bs part (record { state = r.state; why = b.why; n = b.n }) part'
   plays = record {
     within = stops.within;
-    made = (λ i. record { number = sym number-made i; state = r.state; part = part'; next = sym next-made i }) ∙ gave;
+    made = (λ i. record { number = sym number-made i; values = sym values-made i; state = r.state; part = part'; next = sym next-made i }) ∙ gave;
     stopped = λ h. ((stops.stopped h).0, next-number h);
     ended = stops.ended;
   }

@@ -51,6 +51,11 @@ refused_never_7 t mode s steps room e = none ((run_number_exactly t mode s steps
     none : RunNumbered t mode s steps room 7 → ⊥
     none r = elim r [ ]
 
+-- No second answer says why a run is refused before its first step.
+pub run_refusal_unique : (t : Table) (mode : Mode) (s : State) (steps room : ℕ) (r q : Option Refusal) → number_of r ≡ run_refusal t mode s steps room
+    → number_of q ≡ run_refusal t mode s steps room → r ≡ q
+run_refusal_unique t mode s steps room r q e f = why_known r q (e ∙ sym f) (λ z. refused_never_7 t mode s steps room (sym e ∙ z))
+
 module _ (t : Table) (mode : Mode) (masks bs : List ℕ) (s : State) (part : List ℕ) where
   never_7 : (ran t mode masks bs s part).0.why ≡ 7 → ⊥
   unfolding ran

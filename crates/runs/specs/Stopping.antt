@@ -1,5 +1,5 @@
 -- What the inner functions give: where a run stops, and the block before that.
-use Rattle.std.specs.Prelude.{ℕ, ◌+◌, ◌*◌, ◌≤◌, ◌<◌, ◌≡◌, List, get_or, take, ltb}
+use Rattle.std.specs.Prelude.{ℕ, ◌+◌, ◌*◌, ◌≤◌, ◌<◌, ◌≡◌, List, [], get_or, take, ltb}
 use Rattle.basis.specs.Tests.{pick}
 use Rattle.table.specs.declared.Table.{Table}
 use Rattle.state.specs.State.{last_clock}
@@ -35,7 +35,7 @@ pub record Plays (t : Table) (mode : Mode) (s : State) (masks bytes part : List 
   -- n of the whole steps are made ..
   pub within : r.n ≤ whole_steps t masks bytes
   -- .. as one block, which is not refused and gives the state and the part ..
-  pub made : ◌≡◌ {A = Blocked} (record { number = 0; state = r.state; part = part'; next = r.n }) (block t mode (take r.n masks) (take (r.n * t.count) bytes) s part)
+  pub made : ◌≡◌ {A = Blocked} (record { number = 0; values = []; state = r.state; part = part'; next = r.n }) (block t mode (take r.n masks) (take (r.n * t.count) bytes) s part)
   -- .. up to a whole step that is refused with the number ..
   pub stopped : r.n < whole_steps t masks bytes → (0 < r.why) × ((taken t mode (input_at t masks bytes r.n) r.state).told.number ≡ r.why)
   -- .. or up to the last, and then the number is 0.

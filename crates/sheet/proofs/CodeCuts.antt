@@ -93,7 +93,7 @@ scan-next s d i e f =
     e ∙ ap (λ (x : Cutting). told_cut (turned s x)) f ∙ told-turned s (scanned s i) ∙ ap (λ (n : ℕ). told_cut (scanned s n)) q
 
 -- Nothing that stops the cutting is 7.
-no_field-few : (s : List ℕ) (why : ℕ) → NoField s why → why ≡ 7 → ⊥
+pub no_field-few : (s : List ℕ) (why : ℕ) → NoField s why → why ≡ 7 → ⊥
 no_field-few s why (empty _ c) z = omega arith
 no_field-few s why (text_ends _ f c) z = omega arith
 no_field-few s why (padded _ f left b c k) z = omega arith

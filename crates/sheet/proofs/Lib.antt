@@ -22,3 +22,4 @@ pub mod CodeCuts
 pub mod JoinLaws
 pub mod ScanReads
 pub mod CodeJoins
+pub mod FieldOnce

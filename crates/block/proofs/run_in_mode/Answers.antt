@@ -21,6 +21,7 @@ use Rattle.frame.proofs.FrameLaws.{ok_framed, framed_timed}
 use Rattle.block.specs.Block.{mode_of, refusal}
 use Rattle.block.proofs.RunLaws.{Passes, passes, block_refused, mode-made, unframed_made}
 use Rattle.block.proofs.CallLaws.{judged}
+use Rattle.block.proofs.UniqueLaws.{block_plain}
 use borrow.Author.Rules.{rules}
 use Rattle.block.proofs.run_in_mode.Goals as goal
 
@@ -45,7 +46,8 @@ timed t f e = framed_timed _ _ (ok_framed _ _ e)
 pub returns-in-Err : goal.returns-in-Err
 returns-in-Err c =
     let some : number c.in-Err.why ≡ 0 → ⊥ = λ e. absurd (omega (arith, number-positive c.in-Err.why, e)) in
-    rw c.refuse.ensures (block_refused _ (mode_of c.args.frame) _ _ _ _ _ (sym c.in-Err.ensures) some)
+    let plain = block_plain c.args.t (mode_of c.args.frame) c.args.masks.now c.args.bytes.now c.args.s c.args.part.now c.in-Err.why c.in-Err.ensures in
+    rw c.refuse.ensures (rw plain (block_refused _ (mode_of c.args.frame) _ _ _ _ _ (sym c.in-Err.ensures) some))
 
 pub prepare-all-requires : goal.prepare-all-requires
 prepare-all-requires c =
