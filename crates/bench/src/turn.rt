@@ -41,7 +41,7 @@ fn without_more(
 {
     match got.reach {
         Reach::Part | Reach::Interrupted(_) => true,
-        Reach::Failed(error) => {
+        Reach::Failed(error) | Reach::Absent(error) => {
             complain(rt, "standard input", Some(error));
             false
         }

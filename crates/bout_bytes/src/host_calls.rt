@@ -2,7 +2,7 @@
 use crate::Kind;
 use basis::Refusal;
 use reader::Fault;
-use rival_table::unless;
+use rival_table::{number, unless};
 use table::Table;
 use tally::agreed;
 
@@ -23,7 +23,7 @@ fn told(found: Found, nothing: u32) -> u32 {
     match found {
         Ok(Some(n)) => n as u32,
         Ok(None) => nothing,
-        Err(why) => 100000 + u8::from(why) as u32,
+        Err(why) => 100000 + number(why) as u32,
     }
 }
 

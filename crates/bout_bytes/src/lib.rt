@@ -9,4 +9,4 @@ mod writing;
 
 pub use kind::Kind;
 pub use reading::{Answers, calls, read};
-pub use writing::write;
+pub use writing::{wanted, write};

@@ -21,9 +21,9 @@ pub struct Answers {
     pub bound: Option<Kind>,
 }
 
-// The number that a reading refuses with, 0 for none.
+// The number that a reading refuses with, as the second reader has it, 0 for none.
 fn number(read: Result<Table, Fault>) -> u32 {
-    read.map_or_else(|fault| u8::from(fault.why) as u32, |_| 0)
+    read.map_or_else(|fault| rival_table::number(fault.why) as u32, |_| 0)
 }
 
 pub fn calls(bytes: &[u8], thread: u32) -> Answers {

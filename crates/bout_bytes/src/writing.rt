@@ -11,7 +11,7 @@ use tally::agreed;
 const BEFORE: u8 = 170;
 
 // What a second writer says of so many bytes: the place behind them.
-fn wanted(t: Table, len: usize, room: usize, at: usize) -> Result<usize, Refusal> {
+pub fn wanted(t: Table, len: usize, room: usize, at: usize) -> Result<usize, Refusal> {
     unless(legal(t), Refusal::NotLegal)?;
     let end = at.wrapping_add(len);
     unless(end <= room, Refusal::NoRoom)?;

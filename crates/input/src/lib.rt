@@ -1,21 +1,22 @@
 // Reading a file or standard input into a buffer.
 #![tactic(auto)]
 
-ghost use Rattle.std.specs.Prelude.{◌≤◌, ◌<◌, ◌≡◌, length, take, is_some};
-ghost use Rattle.input.specs.Reach.{is_whole, is_open, has_error};
+ghost use Rattle.std.specs.Prelude.{◌≤◌, ◌<◌, ◌≡◌, length, take};
+ghost use Rattle.input.specs.Reach.{is_whole, is_open, error_of};
 
 use std::fs;
 use std::io::{Error, ErrorKind, Read};
 use std::rt::Files;
 
 // How far reading has come: to all that there is or that there is room for, to a part, or to a read that was interrupted, took nothing
-// and is to be made again, or that failed.
+// and is to be made again, or that failed; or there is no file, which counts as no bytes.
 #[derive(Clone, Copy)]
 pub enum Reach {
     Whole,
     Part,
     Interrupted(Error),
     Failed(Error),
+    Absent(Error),
 }
 
 impl Reach {
@@ -23,7 +24,7 @@ impl Reach {
     pub fn is_whole(self) -> bool
         ensures { result ≡ is_whole self }
     {
-        matches!(self, Reach::Whole)
+        matches!(self, Reach::Whole | Reach::Absent(_))
     }
 
     // Whether to read on.
@@ -33,12 +34,12 @@ impl Reach {
         matches!(self, Reach::Part | Reach::Interrupted(_))
     }
 
-    // Why the last read took nothing, where it did not.
+    // Why the last read took nothing, or why no file was opened, if it is so.
     pub fn error(self) -> Option<Error>
-        ensures { is_some result ≡ has_error self }
+        ensures { result ≡ error_of self }
     {
         match self {
-            Reach::Interrupted(error) | Reach::Failed(error) => Some(error),
+            Reach::Interrupted(error) | Reach::Failed(error) | Reach::Absent(error) => Some(error),
             Reach::Whole | Reach::Part => None,
         }
     }
@@ -114,7 +115,7 @@ pub fn load(rt: &impl Files, buf: &mut [u8]) -> Filled
         Ok(mut file) => fill(&mut file, buf),
         Err(error) => {
             let reach = if error.kind() == ErrorKind::NotFound {
-                Reach::Whole
+                Reach::Absent(error)
             } else {
                 Reach::Failed(error)
             };

@@ -107,7 +107,7 @@ impl<R: Print + Eprint, S: Read> Running<'_, R, S> {
         }
         match got.reach {
             Reach::Part | Reach::Interrupted(_) => Ok(Flow::On),
-            Reach::Whole => self.finish(),
+            Reach::Whole | Reach::Absent(_) => self.finish(),
             Reach::Failed(error) => Err(unread(self.rt, "the steps", Some(error))),
         }
     }

@@ -23,7 +23,7 @@ fn is_outside(z: i64) -> bool {
 }
 
 // The height of the nearest number of the range.
-fn height(z: i64) -> u32 {
+pub fn height(z: i64) -> u32 {
     if z < -5000 {
         return 0;
     }

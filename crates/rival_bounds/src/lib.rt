@@ -31,9 +31,11 @@ fn sum_above<Take: Fn(usize, Thread) -> u64>(t: Table, own: Thread, take: Take) 
     requires { Take.IsAlwaysCallable take }
 {
     let mut sum: u64 = 0;
-    for (i, h) in t.threads.iter().take(t.count as usize).enumerate() {
+    for place in 0..t.count {
+        let i = place as usize % 32;
+        let h = t.threads[i];
         if h.priority > own.priority {
-            sum = sum.wrapping_add(take(i, *h));
+            sum = sum.wrapping_add(take(i, h));
         }
     }
     sum
@@ -56,7 +58,7 @@ fn plain_bound(t: Table, own: Thread) -> Option<u16> {
 
 // How many lengths from W to D are tried, on a pass over all of them: W is, and so is each that is the demand of a length tried, up to
 // the first whose demand is at most itself.
-fn lengths_tried(t: Table, own: Thread) -> u16 {
+fn tried_of(t: Table, own: Thread) -> u16 {
     let mut awaited = own.budget as u64;
     let mut tried: u16 = 0;
     for x in own.budget..=own.deadline {
@@ -69,6 +71,11 @@ fn lengths_tried(t: Table, own: Thread) -> u16 {
         }
     }
     tried
+}
+
+// The same of thread i of any table.
+pub fn lengths_tried(t: Table, i: u8) -> u16 {
+    tried_of(t, t.threads[i as usize % 32])
 }
 
 // Thread i of a legal table; refuses with 11, 15.
@@ -86,7 +93,7 @@ pub fn bound(t: Table, i: u8) -> Result<Option<u16>, Refusal> {
 fn search(t: Table, own: Thread) -> Search {
     Search {
         bound: plain_bound(t, own),
-        tried: lengths_tried(t, own),
+        tried: tried_of(t, own),
     }
 }
 

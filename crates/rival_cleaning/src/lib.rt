@@ -15,12 +15,12 @@ fn flows(t: Table, a: u8, b: u8) -> bool {
 }
 
 // Who ran last in a part of a trace, if anyone did.
-fn latest(t: Table, past: &[u8]) -> Option<u8> {
+pub fn latest(t: Table, past: &[u8]) -> Option<u8> {
     past.iter().rev().copied().find(|b| *b < t.count)
 }
 
 // The cleaning at step k, if one is due there.
-fn due_at(t: Table, trace: &[u8], k: usize) -> Option<Cleaning> {
+pub fn due_at(t: Table, trace: &[u8], k: usize) -> Option<Cleaning> {
     let after = *trace.get(k)?;
     let before = latest(t, trace.get(..k)?)?;
     if t.count <= after || before == after || flows(t, before, after) {
@@ -34,7 +34,7 @@ fn due_at(t: Table, trace: &[u8], k: usize) -> Option<Cleaning> {
 }
 
 // Whether a byte names one of so many threads, or is 255.
-fn is_named(count: u8, b: u8) -> bool {
+pub fn is_named(count: u8, b: u8) -> bool {
     b == 255 || (b < 64 && b % 32 < count)
 }
 
