@@ -1,4 +1,7 @@
 // What a number of a table is, by its index, and its name.
+ghost use Rattle.std.specs.Prelude.{Some};
+ghost use Rattle.sentence.specs.Names.{head_name, field_name, spot_name, subject_name};
+
 use super::Cause;
 use std::fmt;
 use std::fmt::{Display, Formatter, Write};
@@ -37,6 +40,8 @@ pub enum Spot {
 pub struct Subject(pub Spot);
 
 impl Display for Head {
+    ghost output = { λ s. Some (head_name s) };
+
     fn fmt<W: Write>(&self, f: &mut Formatter<W>) -> fmt::Result {
         f.write_str(match self {
             Head::Version => "the version",
@@ -47,6 +52,8 @@ impl Display for Head {
 }
 
 impl Display for Field {
+    ghost output = { λ s. Some (field_name s) };
+
     fn fmt<W: Write>(&self, f: &mut Formatter<W>) -> fmt::Result {
         f.write_str(match self {
             Field::Domain => "domain",
@@ -63,6 +70,8 @@ impl Display for Field {
 
 // As a spot stands in the middle of a sentence.
 impl Display for Spot {
+    ghost output = { λ s. Some (spot_name s) };
+
     fn fmt<W: Write>(&self, f: &mut Formatter<W>) -> fmt::Result {
         match self {
             Spot::Head(head) => write!(f, "{head}"),
@@ -73,6 +82,8 @@ impl Display for Spot {
 }
 
 impl Display for Subject {
+    ghost output = { λ s. Some (subject_name s) };
+
     fn fmt<W: Write>(&self, f: &mut Formatter<W>) -> fmt::Result {
         match self.0 {
             Spot::Field(thread, field) => write!(f, "thread {thread}: its {field}"),

@@ -1,5 +1,6 @@
 // Refusals of a step, a frame, a drive or a trace, and those that name nothing.
-ghost use Rattle.std.specs.Prelude.{◌<◌};
+ghost use Rattle.std.specs.Prelude.{◌<◌, Some};
+ghost use Rattle.sentence.specs.Names.{named_name};
 
 use super::page::put;
 use basis::Refusal;
@@ -16,6 +17,8 @@ pub enum Named {
 }
 
 impl Display for Named {
+    ghost output = { λ n. Some (named_name n) };
+
     fn fmt<W: Write>(&self, f: &mut Formatter<W>) -> fmt::Result {
         f.write_str(match self {
             Named::Domain => "domain",
