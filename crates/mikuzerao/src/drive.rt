@@ -99,7 +99,13 @@ impl<R: Print + Eprint, S: Read> Driving<'_, R, S> {
                 Stream::Output,
                 Refusal::Actuator,
                 Some(clock as u64),
-                |out| explain_drive(out, o.rate, o.start as i64),
+                |out| explain_drive(
+                    out,
+                    false,
+                    o.rate,
+                    o.start < 0,
+                    u64::from(o.start.unsigned_abs()),
+                ),
             ),
             _ => refuse_step(self.rt, Stream::Output, t, clock, stuck),
         }

@@ -33,7 +33,12 @@ fn refuse_row(
     let Fault { why, place } = fault;
     let at = place.min(65536) as usize;
     refuse(rt, Stream::Output, why, Some(place), |out| {
-        explain(out, why, Form::Sheet, row_cause(text, at, i, value, rows))
+        explain(
+            out,
+            Some(why),
+            Form::Sheet,
+            row_cause(text, at, i, value, rows),
+        )
     })
 }
 

@@ -50,6 +50,6 @@ pub fn refuse_table(rt: &(impl Print + Eprint), to: Stream, text: &[u8], fault: 
     let Fault { why, place } = fault;
     let form = form_of(text);
     refuse(rt, to, why, Some(place as u64), |out| {
-        explain(out, why, form, find(text, form, place))
+        explain(out, Some(why), form, find(text, form, place))
     })
 }

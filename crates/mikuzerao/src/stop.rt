@@ -37,7 +37,7 @@ fn explain_stuck(out: &mut [u8], t: &Table, clock: u32, stuck: Stuck) -> usize {
             why: Refusal::EventMask,
             mask,
         } => explain_event(out, clock, mask, *t),
-        Stuck::Refused { why, mask: _ } => explain_other(out, why),
+        Stuck::Refused { why, mask: _ } => explain_other(out, Some(why)),
     }
 }
 

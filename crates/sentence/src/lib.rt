@@ -51,32 +51,34 @@ pub struct Cause {
     pub numbers: [u16; MOST],
 }
 
-// A refusal of a table, in bytes or in the comma form.
-pub fn explain(out: &mut [u8], why: Refusal, form: Form, c: Cause) -> usize {
+// A refusal of a table, in bytes or in the comma form; a number that is no refusal's is told in general words.
+pub fn explain(out: &mut [u8], why: Option<Refusal>, form: Form, c: Cause) -> usize {
     match (why, c.at) {
-        (Refusal::Extra, _) => end::explain_rest(out, form, &c),
-        (Refusal::Intransitive { a, b, c }, _) => explain_gap(out, a, b, c),
+        (Some(Refusal::Extra), _) => end::explain_rest(out, form, &c),
+        (Some(Refusal::Intransitive { a, b, c }), _) => explain_gap(out, a, b, c),
         (_, Some(k)) => explain_number(out, why, form, &c, k),
         (_, None) => explain_other(out, why),
     }
 }
 
 // A refusal of number k.
-fn explain_number(out: &mut [u8], why: Refusal, form: Form, c: &Cause, k: usize) -> usize {
+fn explain_number(out: &mut [u8], why: Option<Refusal>, form: Form, c: &Cause, k: usize) -> usize {
     let s = spot_of(c, k);
     let v = c.value.unwrap_or(0);
     match (why, s) {
         // behind the sixteenth in a line of rows
         (_, Spot::Row(i)) if 15 < i => range::explain_rows(out),
-        (Refusal::EndsEarly, _) => end::explain_end(out, form, c, k, s),
-        (Refusal::NotShortest, _) => digits::explain_form(out, form, c, s),
-        (Refusal::TooLarge, _) => digits::explain_large(out, s),
-        (Refusal::Version, _) => range::explain_version(out, v),
-        (Refusal::Count, Spot::Head(head)) => range::explain_count(out, v, head),
-        (Refusal::Count, _) => range::explain_rows(out),
-        (Refusal::Row, Spot::Row(i)) => range::explain_row(out, c, v, i),
-        (Refusal::Field, Spot::Field(i, field)) => range::explain_field(out, c, v, k, i, field),
-        (Refusal::PriorityTaken, Spot::Field(i, _)) => range::explain_priority(out, c, v, i),
+        (Some(Refusal::EndsEarly), _) => end::explain_end(out, form, c, k, s),
+        (Some(Refusal::NotShortest), _) => digits::explain_form(out, form, c, s),
+        (Some(Refusal::TooLarge), _) => digits::explain_large(out, s),
+        (Some(Refusal::Version), _) => range::explain_version(out, v),
+        (Some(Refusal::Count), Spot::Head(head)) => range::explain_count(out, v, head),
+        (Some(Refusal::Count), _) => range::explain_rows(out),
+        (Some(Refusal::Row), Spot::Row(i)) => range::explain_row(out, c, v, i),
+        (Some(Refusal::Field), Spot::Field(i, field)) => range::explain_field(
+            out, c, v, k, i, field,
+        ),
+        (Some(Refusal::PriorityTaken), Spot::Field(i, _)) => range::explain_priority(out, c, v, i),
         _ => explain_other(out, why),
     }
 }

@@ -116,6 +116,6 @@ pub fn explain_priority(out: &mut [u8], c: &Cause, v: u16, i: usize) -> usize {
             out,
             format_args!("thread {i}: its priority {v} is that of thread {t}\n"),
         ),
-        None => explain_other(out, Refusal::PriorityTaken),
+        None => explain_other(out, Some(Refusal::PriorityTaken)),
     }
 }

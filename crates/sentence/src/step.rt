@@ -61,7 +61,7 @@ fn is_deaf(t: &Table, i: u8) -> bool
 pub fn explain_event(out: &mut [u8], clock: u32, mask: u32, t: Table) -> usize {
     let last = t.count.saturating_sub(1);
     match (0..32u8).find(|&i| (mask >> i) % 2 == 1 && is_deaf(&t, i)) {
-        None => explain_other(out, Refusal::EventMask),
+        None => explain_other(out, Some(Refusal::EventMask)),
         Some(i) if i < t.count => put(
             out,
             format_args!("step {clock}: its mask names thread {i}, which is periodic\n"),
@@ -125,20 +125,33 @@ pub fn explain_frame(out: &mut [u8], f: Frame, domains: u8) -> usize {
             return explain_window(out, k + 1, *w, domains);
         }
     }
-    explain_other(out, Refusal::Frame)
+    explain_other(out, Some(Refusal::Frame))
 }
 
-// 20: the rate, or else the start.
-pub fn explain_drive(out: &mut [u8], rate: u64, start: i64) -> usize {
-    if rate == 0 || 1000 < rate {
+// The sign of a number as it was typed.
+fn sign_of(minus: bool) -> &'static str {
+    if minus { "-" } else { "" }
+}
+
+// 20: the rate, or else the start, each by its sign and its size.
+pub fn explain_drive(
+    out: &mut [u8],
+    rate_minus: bool,
+    rate: u64,
+    start_minus: bool,
+    start: u64,
+) -> usize {
+    if rate_minus || rate == 0 || 1000 < rate {
+        let sign = sign_of(rate_minus);
         return put(
             out,
-            format_args!("the rate is {rate}: 1 to 1000 are possible\n"),
+            format_args!("the rate is {sign}{rate}: 1 to 1000 are possible\n"),
         );
     }
+    let sign = sign_of(start_minus);
     put(
         out,
-        format_args!("the start is {start}: -5000 to 95000 are possible\n"),
+        format_args!("the start is {sign}{start}: -5000 to 95000 are possible\n"),
     )
 }
 
@@ -153,22 +166,24 @@ pub fn explain_byte(out: &mut [u8], step: u64, b: u8, count: u8) -> usize {
     )
 }
 
-// A refusal by its kind alone.
-pub fn explain_other(out: &mut [u8], why: Refusal) -> usize {
+// A refusal by its kind alone, or a number that is no refusal's.
+pub fn explain_other(out: &mut [u8], why: Option<Refusal>) -> usize {
     put(
         out,
         match why {
-            Refusal::Intransitive { a: _, b: _, c: _ } => "the flow relation is not transitive\n",
-            Refusal::NotLegal => "the table is not legal\n",
-            Refusal::NotFitting => "the state does not fit the table\n",
-            Refusal::StepBytes => "the bytes or the masks do not fit the steps\n",
-            Refusal::LastClock => "the clock has reached 1,000,000,000, and no step follows\n",
-            Refusal::Missing => "there is no such domain or thread\n",
-            Refusal::NoRoom => "there is too little room\n",
-            Refusal::EventMask => "a mask names a thread that no event releases\n",
-            Refusal::Frame => "the frame does not fit the table\n",
-            Refusal::Actuator => "the rate or the start is out of its range\n",
-            Refusal::TraceByte => "a byte of the trace names no thread of the table\n",
+            Some(Refusal::Intransitive { a: _, b: _, c: _ }) =>
+                "the flow relation is not transitive\n",
+            Some(Refusal::NotLegal) => "the table is not legal\n",
+            Some(Refusal::NotFitting) => "the state does not fit the table\n",
+            Some(Refusal::StepBytes) => "the bytes or the masks do not fit the steps\n",
+            Some(Refusal::LastClock) =>
+                "the clock has reached 1,000,000,000, and no step follows\n",
+            Some(Refusal::Missing) => "there is no such domain or thread\n",
+            Some(Refusal::NoRoom) => "there is too little room\n",
+            Some(Refusal::EventMask) => "a mask names a thread that no event releases\n",
+            Some(Refusal::Frame) => "the frame does not fit the table\n",
+            Some(Refusal::Actuator) => "the rate or the start is out of its range\n",
+            Some(Refusal::TraceByte) => "a byte of the trace names no thread of the table\n",
             _ => "the table is refused\n",
         },
     )
