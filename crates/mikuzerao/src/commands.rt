@@ -4,7 +4,7 @@ ghost use Rattle.std.specs.Prelude.{◌≤◌};
 use super::parts::read_parts;
 use input::read_on;
 use std::io::Read;
-use typed::{End, Field, close, command_of, feed, new_text};
+use typed::{End, Field, close, command_of, new_text, read_field};
 
 // A line of the commands is no number.
 #[derive(Clone, Copy, Debug, PartialEq, Eq)]
@@ -27,8 +27,15 @@ fn count_line(lines: u64, f: Field) -> Result<u64, NoNumber> {
 
 // The lines that end in a part.
 fn count_part(mut c: Counting, part: &[u8]) -> Result<Counting, NoNumber> {
-    for b in part {
-        c.field = feed(c.field, *b);
+    let mut at = 0;
+    // each field takes one character at least
+    for _ in 0..part.len() {
+        if part.len() <= at {
+            break;
+        }
+        let r = read_field(c.field, part, at);
+        c.field = r.field;
+        at = r.next;
         if c.field.ended.is_some() {
             c.lines = count_line(c.lines, c.field)?;
         }
@@ -73,31 +80,30 @@ impl<S: Read> Commands<S> {
         }
     }
 
-    // The next byte of the text, if one follows.
-    fn next_byte(&mut self) -> Option<u8> {
+    // Reads the next part of the text. Whether there is one.
+    fn refill(&mut self) -> bool {
+        self.at = 0;
         // as many turns as count for no end
         for _ in 0..u64::MAX {
-            if self.at < self.len {
-                let b = self.part[self.at];
-                self.at += 1;
-                return Some(b);
-            }
             let f = read_on(&mut self.from, &mut self.part, 0);
             self.len = f.count;
-            self.at = 0;
-            if f.count == 0 && !f.reach.is_open() {
+            if 0 < f.count || !f.reach.is_open() {
                 break;
             }
         }
-        None
+        0 < self.len
     }
 
     // The number of the next line, if one follows.
     pub fn next_command(&mut self) -> Option<i32> {
         let mut field = new_text();
         for _ in 0..u64::MAX {
-            let Some(b) = self.next_byte() else { break };
-            field = feed(field, b);
+            if self.len <= self.at && !self.refill() {
+                break;
+            }
+            let r = read_field(field, &self.part[..self.len], self.at);
+            field = r.field;
+            self.at = r.next;
             if field.ended.is_some() {
                 break;
             }

@@ -1,5 +1,6 @@
 // drive: a step and a move of the actuator for each command.
-ghost use Rattle.std.specs.Prelude.{◌<◌};
+ghost use Rattle.std.specs.Prelude.{◌<◌, Some};
+ghost use Rattle.report.specs.Lines.{choice};
 
 use super::begin::{Asked, open_steps, take_asked};
 use super::call::Call;
@@ -50,6 +51,8 @@ fn is_one_each(bytes: u64, size: u64, lines: u64) -> bool
 struct Choice(Answer);
 
 impl Display for Choice {
+    ghost output = { λ c. Some (choice c.0) };
+
     fn fmt<W: Write>(&self, f: &mut Formatter<W>) -> fmt::Result {
         match self.0 {
             Answer::Ran(i) => write!(f, "T{i}"),
