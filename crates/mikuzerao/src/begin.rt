@@ -6,10 +6,9 @@ use super::files::{Source, input_once, open_named, open_optional};
 use super::framing::{check_frame, take_frame};
 use super::options::{Options, take_options};
 use super::say::{Stop, Stream};
-use super::tables::read_table;
+use super::tables::{Given, read_table};
 use frame::Frame;
 use std::rt::Runtime;
-use table::Table;
 
 // The options of a call, with the frame and the events that they name.
 #[derive(Drop)]
@@ -38,13 +37,13 @@ pub fn take_asked<R: Runtime>(
     })
 }
 
-// The table of word 2, with which the frame passes, and the steps of word 3.
+// The table of word 2, with which the frame passes, and beside it the steps of word 3.
 pub fn open_steps<R: Runtime>(
     rt: &R,
     to: Stream,
     frame: Option<Frame>,
-) -> Result<(Table, Source<R::File, R::Reader>), Stop> {
-    let (t, steps) = read_table(rt, to, || open_named(rt, 3))?;
-    check_frame(rt, to, &t, frame)?;
-    Ok((t, steps))
+) -> Result<Given<Source<R::File, R::Reader>, Source<R::File, R::Reader>>, Stop> {
+    let given = read_table(rt, to, || open_named(rt, 3))?;
+    check_frame(rt, to, &given.table, frame)?;
+    Ok(given)
 }

@@ -6,7 +6,7 @@ use super::page::Page;
 use super::parts::read_parts;
 use super::refusal::refuse;
 use super::say::{Stop, Stream, say, write};
-use super::tables::read_table;
+use super::tables::{Given, read_table};
 use super::words::want_words;
 use basis::Refusal;
 use cleaning::{Cleaning, last_runner};
@@ -95,7 +95,11 @@ fn take_part(
 pub fn clean(rt: &impl Runtime) -> Result<(), Stop> {
     want_words(rt, 3)?;
     input_once(rt, 4, &[])?;
-    let (t, mut trace) = read_table(rt, Stream::Output, || open_named(rt, 3))?;
+    let Given {
+        table: t,
+        beside: mut trace,
+        file: _file,
+    } = read_table(rt, Stream::Output, || open_named(rt, 3))?;
     let mut page = Page::new();
     let mut so = So {
         steps: 0,

@@ -33,7 +33,7 @@ pub fn desk<R: Runtime, F: FnOnce(&Table)>(rt: &R, to: Stream, answer: F) -> Res
     requires { F.IsAlwaysCallable answer }
 {
     want_words(rt, 2)?;
-    let (t, ()) = read_table(rt, to, || Ok(()))?;
-    answer(&t);
+    let given = read_table(rt, to, || Ok(()))?;
+    answer(&given.table);
     Ok(())
 }

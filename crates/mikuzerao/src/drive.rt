@@ -14,6 +14,7 @@ use super::refusal::refuse;
 use super::say::{Stop, Stream, say, write, wrong};
 use super::steps::{fresh_state, say_threads, step_size};
 use super::stop::{Stuck, check_end, refuse_step};
+use super::tables::Given;
 use super::words::want_more;
 use actuator::{Actuator, drive_in_frame, start};
 use basis::Refusal;
@@ -193,7 +194,11 @@ pub fn drive(rt: &impl Runtime) -> Result<(), Stop> {
         events,
     } = take_asked(rt, Call::Drive, 5)?;
     let (commands, lines) = open_commands(rt)?;
-    let (table, mut steps) = open_steps(rt, Stream::Output, frame)?;
+    let Given {
+        table,
+        beside: mut steps,
+        file: _file,
+    } = open_steps(rt, Stream::Output, frame)?;
     let bytes = count_bytes(&mut steps);
     rewind(rt, &mut steps)?;
     if !is_one_each(bytes, step_size(&table) as u64, lines) {

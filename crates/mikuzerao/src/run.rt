@@ -10,6 +10,7 @@ use super::say::{Stop, Stream, say, unread};
 use super::show::{Look, look_of, refusals_to, show_state, show_steps};
 use super::steps::{fresh_state, say_threads, step_size};
 use super::stop::{Stuck, check_end, refuse_step};
+use super::tables::Given;
 use super::words::want_more;
 use frame::Frame;
 use input::{Reach, read_on};
@@ -125,7 +126,11 @@ pub fn run(rt: &impl Runtime, call: Call) -> Result<(), Stop> {
         Call::Trace => Stream::Complaints,
         _ => Stream::Output,
     };
-    let (table, steps) = open_steps(rt, to, frame)?;
+    let Given {
+        table,
+        beside: steps,
+        file: _file,
+    } = open_steps(rt, to, frame)?;
     let look = match call {
         Call::Trace => Look::Bytes,
         _ => look_of(rt, &table, o.shown)?,

@@ -65,12 +65,21 @@ pub fn judge<S: Read>(from: &mut S, text: &[u8]) -> Result<Table, Fault> {
     }
 }
 
+// A legal table, what is opened beside it, and the table's file, which stays open while the call goes on: where there is no standard
+// input, the file has its number, and no steps follow.
+#[derive(Drop)]
+pub struct Given<T, S> {
+    pub table: Table,
+    pub beside: T,
+    pub file: S,
+}
+
 // The table that word 2 names, and what is opened beside it, once the table is read and before it is refused.
 pub fn read_table<R: Runtime, T: Drop, F: FnOnce() -> Result<T, Stop>>(
     rt: &R,
     to: Stream,
     beside: F,
-) -> Result<(Table, T), Stop>
+) -> Result<Given<T, Source<R::File, R::Reader>>, Stop>
     requires { F.IsAlwaysCallable beside }
 {
     let mut text = [0u8; 65536];
@@ -78,7 +87,11 @@ pub fn read_table<R: Runtime, T: Drop, F: FnOnce() -> Result<T, Stop>>(
     let judged = judge(&mut from, text);
     let opened = beside()?;
     match judged {
-        Ok(t) => Ok((t, opened)),
+        Ok(table) => Ok(Given {
+            table,
+            beside: opened,
+            file: from,
+        }),
         Err(fault) => Err(refuse_table(rt, to, text, fault)),
     }
 }
